@@ -1,1 +1,4 @@
 pub mod Tree
+pub mod Core
+pub mod Rules
+pub mod Meaning
