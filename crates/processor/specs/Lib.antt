@@ -1,0 +1,7 @@
+pub mod Machine
+pub mod Formats
+pub mod Instructions
+pub mod Execute
+pub mod Run
+pub mod Image
+pub mod Examples
