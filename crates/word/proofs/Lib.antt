@@ -7,3 +7,5 @@ pub mod Range
 pub mod Sums
 pub mod SignedOrder
 pub mod WordBytes
+pub mod Differences
+pub mod Integers
