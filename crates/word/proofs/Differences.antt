@@ -43,6 +43,20 @@ pub neg-pos-diff : (n : ℕ) → negℤ (pos n) ≡ subℕ 0 n
 neg-pos-diff zero = refl
 neg-pos-diff (suc n) = negsuc-diff n
 
+-- every integer is a difference
+
+abbrev pub up : ℤ → ℕ
+up (pos n) = n
+up (negsuc n) = 0
+
+abbrev pub down : ℤ → ℕ
+down (pos n) = 0
+down (negsuc n) = suc n
+
+pub as-diff : (z : ℤ) → z ≡ subℕ (up z) (down z)
+as-diff (pos n) = pos-diff n
+as-diff (negsuc n) = negsuc-diff n
+
 -- sums, negations, differences and products of differences
 
 pub diff-add : (p q r s : ℕ) → subℕ p q +ℤ subℕ r s ≡ subℕ (p + r) (q + s)

@@ -1,14 +1,20 @@
 -- What the operations on words mean, in the integers that the words stand for.
 use Prim.Native.Nat.{ℕ, zero, suc, _+_, _-_, _*_, _/_, _%_, _^_, _<_, _≤_}
-use mathlib.Core.Path.{_≡_, refl, sym, _∙_, ap}
+use mathlib.Core.Path.{_≡_, refl, sym, _∙_, ap, ap₂, subst}
+use mathlib.Core.Logic.{_↔_}
 use mathlib.Core.Bool.{Bool, true, false}
 use native.Mathlib.Omega.{arith}
+use native.Mathlib.Nat.{mul-assoc, mul-right-comm}
+use lib.Dec.{T, ltb, leb, leb→le}
+use borrow.Author.Tests.{lt-ltb, le-ltb}
+use lib.Signed.{ltZ, leZ, _≤ℤ_, _<ℤ_, ltZ-yes}
 use lib.IntN.{ℤ, pos, negsuc, negℤ, subℕ, _+ℤ_, _-ℤ_, _*ℤ_}
-use Rattle.word.specs.Choice.{pick}
-use Rattle.word.specs.Word.{addW, subW, negW, mulW, negative, bitOf}
-use Rattle.word.specs.Integers.{toZ, ofZ, wrap}
-use Rattle.word.proofs.Sign.{by-sign}
-use Rattle.word.proofs.Differences.{pos-diff, diff-ind, diff-eq, diff-add, diff-sub, diff-neg, diff-mul}
+use Rattle.word.specs.Choice.{pick, agree}
+use Rattle.word.specs.Word.{addW, subW, negW, mulW, negative, ltS, bitOf}
+use Rattle.word.specs.Integers.{toZ, ofZ, wrap, Wraps}
+use Rattle.word.proofs.Cases.{ltb-iff}
+use Rattle.word.proofs.Sign.{by-sign, negative-is, negative-isnt}
+use Rattle.word.proofs.Differences.{diff-lt, diff-le, pos-diff, negsuc-diff, neg-pos-diff, up, down, as-diff, diff-ind, diff-eq, diff-add, diff-sub, diff-neg, diff-mul, ltZ-diff}
 
 -- a word stands for itself less its top bit's 2 ^ 32
 pub toZ-diff : (a : ℕ) → toZ a ≡ subℕ a (bitOf (negative a) * 2 ^ 32)
@@ -26,6 +32,76 @@ ofZ-diff p q = diff-ind (λ p q z. ofZ z ≡ (p + (2 ^ 32 - q % 2 ^ 32)) % 2 ^ 3
     ofZ-negsuc : (p x : ℕ) → 2 ^ 32 - 1 - x % 2 ^ 32 ≡ (p + (2 ^ 32 - (p + suc x) % 2 ^ 32)) % 2 ^ 32
     ofZ-negsuc p x = omega arith
 
+-- What a word stands for, by its sign.
+
+pub toZ-positive : (a : ℕ) → a < 2 ^ 31 → toZ a ≡ pos a
+unfolding toZ
+toZ-positive a h = simp (negative-isnt a h)
+
+pub toZ-negative : (a : ℕ) → 2 ^ 31 ≤ a → a < 2 ^ 32 → toZ a ≡ negsuc (2 ^ 32 - 1 - a)
+unfolding toZ
+toZ-negative a h l = simp (negative-is a h) (diff-lt a (2 ^ 32) l ∙ ap negsuc (omega arith))
+
+-- Wrapping: it gives what its name says, and nothing else does; what fits is its own wrapping.
+
+ofZ-lt : (k : ℤ) → ofZ k < 2 ^ 32
+unfolding ofZ
+ofZ-lt (pos n) = omega arith
+ofZ-lt (negsuc n) = omega arith
+
+toZ-least : (a : ℕ) → negℤ (pos (2 ^ 31)) ≤ℤ toZ a
+unfolding bitOf
+toZ-least a = rw (toZ-diff a, neg-pos-diff (2 ^ 31))
+    (diff-le 0 (2 ^ 31) a (bitOf (negative a) * 2 ^ 32)
+    (by-sign a (λ x. 0 + pick x 1 0 * 2 ^ 32 ≤ a + 2 ^ 31) (λ (h : 2 ^ 31 ≤ a). omega arith) (λ h. omega arith)))
+
+toZ-most : (a : ℕ) → a < 2 ^ 32 → toZ a ≤ℤ pos (2 ^ 31 - 1)
+unfolding bitOf
+toZ-most a l = rw (toZ-diff a, pos-diff (2 ^ 31 - 1))
+    (diff-le a (bitOf (negative a) * 2 ^ 32) (2 ^ 31 - 1) 0
+    (by-sign a (λ x. a + 0 ≤ 2 ^ 31 - 1 + pick x 1 0 * 2 ^ 32) (λ h. omega arith) (λ (h : a < 2 ^ 31). omega arith)))
+
+-- so many times 2 ^ 32
+times-diff : (t u : ℕ) → subℕ t u *ℤ pos (2 ^ 32) ≡ subℕ (t * 2 ^ 32) (u * 2 ^ 32)
+times-diff t u = ap (λ z. subℕ t u *ℤ z) (pos-diff (2 ^ 32)) ∙ diff-mul t u (2 ^ 32) 0 ∙ diff-eq (t * 2 ^ 32 + u * 0) (t * 0 + u * 2 ^ 32) (t * 2 ^ 32) (u * 2 ^ 32) (omega arith)
+
+apart : (p q a t u : ℕ) → p + (bitOf (negative a) * 2 ^ 32 + u * 2 ^ 32) ≡ a + t * 2 ^ 32 + q → subℕ p q ≡ toZ a +ℤ subℕ t u *ℤ pos (2 ^ 32)
+apart p q a t u e = rw (toZ-diff a, times-diff t u, diff-add a (bitOf (negative a) * 2 ^ 32) (t * 2 ^ 32) (u * 2 ^ 32)) (diff-eq p q (a + t * 2 ^ 32) (bitOf (negative a) * 2 ^ 32 + u * 2 ^ 32) e)
+
+pub wrap-wraps : (k : ℤ) → Wraps k (wrap k)
+unfolding wrap ofZ
+wrap-wraps (pos n) = record {
+    least = toZ-least (ofZ (pos n));
+    most = toZ-most (ofZ (pos n)) (ofZ-lt (pos n));
+    times = subℕ (n / 2 ^ 32 + bitOf (negative (n % 2 ^ 32))) 0;
+    differs = pos-diff n ∙ apart n 0 (n % 2 ^ 32) (n / 2 ^ 32 + bitOf (negative (n % 2 ^ 32))) 0 (omega arith) }
+wrap-wraps (negsuc n) = record {
+    least = toZ-least (ofZ (negsuc n));
+    most = toZ-most (ofZ (negsuc n)) (ofZ-lt (negsuc n));
+    times = subℕ (bitOf (negative (2 ^ 32 - 1 - n % 2 ^ 32))) (suc (n / 2 ^ 32));
+    differs = negsuc-diff n ∙ apart 0 (suc n) (2 ^ 32 - 1 - n % 2 ^ 32) (bitOf (negative (2 ^ 32 - 1 - n % 2 ^ 32))) (suc (n / 2 ^ 32)) (omega arith) }
+
+pub wrap-fits : (r : ℤ) → negℤ (pos (2 ^ 31)) ≤ℤ r → r ≤ℤ pos (2 ^ 31 - 1) → wrap r ≡ r
+unfolding wrap ofZ
+wrap-fits (pos n) l m =
+    let h : n ≤ 2 ^ 31 - 1 = leb→le n (2 ^ 31 - 1) (m .le) in
+    toZ-positive (n % 2 ^ 32) (omega arith) ∙ ap pos (omega arith)
+wrap-fits (negsuc n) l m =
+    let h : n ≤ 2 ^ 31 - 1 = leb→le n (2 ^ 31 - 1) (l .le) in
+    toZ-negative (2 ^ 32 - 1 - n % 2 ^ 32) (omega arith) (omega arith) ∙ ap negsuc (omega arith)
+
+ofZ-times : (r t : ℤ) → ofZ (r +ℤ t *ℤ pos (2 ^ 32)) ≡ ofZ r
+ofZ-times r t =
+    ap ofZ (ap₂ (λ y z. y +ℤ z *ℤ pos (2 ^ 32)) (as-diff r) (as-diff t) ∙ ap (λ z. subℕ (up r) (down r) +ℤ z) (times-diff (up t) (down t)) ∙ diff-add (up r) (down r) (up t * 2 ^ 32) (down t * 2 ^ 32))
+    ∙ ofZ-diff (up r + up t * 2 ^ 32) (down r + down t * 2 ^ 32) ∙ same (up r) (down r) (up t) (down t) ∙ sym (ap ofZ (as-diff r) ∙ ofZ-diff (up r) (down r))
+  where
+    same : (p q t u : ℕ) → (p + t * 2 ^ 32 + (2 ^ 32 - (q + u * 2 ^ 32) % 2 ^ 32)) % 2 ^ 32 ≡ (p + (2 ^ 32 - q % 2 ^ 32)) % 2 ^ 32
+    same p q t u = omega arith
+
+pub wrap-only : (k r : ℤ) → Wraps k r → r ≡ wrap k
+unfolding wrap
+wrap-only k r w = sym (wrap-fits r (w .least) (w .most)) ∙ ap toZ (sym (ap ofZ (w .differs) ∙ ofZ-times r (w .times)))
+
 -- Sums, differences, negations and products are those of the integers, wrapped.
 
 ofZ-add : (a b : ℕ) → ofZ (toZ a +ℤ toZ b) ≡ addW a b
@@ -35,3 +111,50 @@ ofZ-add a b = rw (toZ-diff a, toZ-diff b, diff-add a (bitOf (negative a) * 2 ^ 3
 pub toZ-addW : (a b : ℕ) → toZ (addW a b) ≡ wrap (toZ a +ℤ toZ b)
 unfolding wrap
 toZ-addW a b = ap toZ (sym (ofZ-add a b))
+
+ofZ-sub : (a b : ℕ) → b < 2 ^ 32 → ofZ (toZ a -ℤ toZ b) ≡ subW a b
+unfolding subW
+ofZ-sub a b h = rw (toZ-diff a, toZ-diff b, diff-sub a (bitOf (negative a) * 2 ^ 32) b (bitOf (negative b) * 2 ^ 32), ofZ-diff) (omega arith)
+
+pub toZ-subW : (a b : ℕ) → b < 2 ^ 32 → toZ (subW a b) ≡ wrap (toZ a -ℤ toZ b)
+unfolding wrap
+toZ-subW a b h = ap toZ (sym (ofZ-sub a b h))
+
+ofZ-neg : (a : ℕ) → a < 2 ^ 32 → ofZ (negℤ (toZ a)) ≡ negW a
+unfolding negW
+ofZ-neg a h = rw (toZ-diff a, diff-neg a (bitOf (negative a) * 2 ^ 32), ofZ-diff) (omega arith)
+
+pub toZ-negW : (a : ℕ) → a < 2 ^ 32 → toZ (negW a) ≡ wrap (negℤ (toZ a))
+unfolding wrap
+toZ-negW a h = ap toZ (sym (ofZ-neg a h))
+
+ofZ-mul : (a b : ℕ) → ofZ (toZ a *ℤ toZ b) ≡ mulW a b
+unfolding mulW
+ofZ-mul a b = rw (toZ-diff a, toZ-diff b, diff-mul a (bitOf (negative a) * 2 ^ 32) b (bitOf (negative b) * 2 ^ 32), ofZ-diff) (whole (bitOf (negative a)) (bitOf (negative b)))
+  where
+    -- all but a * b is so many times 2 ^ 32
+    whole : (β γ : ℕ) → (a * b + β * 2 ^ 32 * (γ * 2 ^ 32) + (2 ^ 32 - (a * (γ * 2 ^ 32) + β * 2 ^ 32 * b) % 2 ^ 32)) % 2 ^ 32 ≡ a * b % 2 ^ 32
+    whole β γ = rw (← mul-assoc (β * 2 ^ 32) γ (2 ^ 32), ← mul-assoc a γ (2 ^ 32), mul-right-comm β (2 ^ 32) b) (omega arith)
+
+pub toZ-mulW : (a b : ℕ) → toZ (mulW a b) ≡ wrap (toZ a *ℤ toZ b)
+unfolding wrap
+toZ-mulW a b = ap toZ (sym (ofZ-mul a b))
+
+-- The signed order is that of the integers.
+
+pub toZ-ltS : (a b : ℕ) → a < 2 ^ 32 → b < 2 ^ 32 → ltS a b ≡ ltZ (toZ a) (toZ b)
+unfolding ltS bitOf
+toZ-ltS a b ha hb = rw (toZ-diff a, toZ-diff b) (go (negative a) refl (negative b) refl ∙ sym (ltZ-diff a (bitOf (negative a) * 2 ^ 32) b (bitOf (negative b) * 2 ^ 32)))
+  where
+    go : (x : Bool) → negative a ≡ x → (y : Bool) → negative b ≡ y → pick (agree x y) (ltb a b) x ≡ ltb (a + pick y 1 0 * 2 ^ 32) (b + pick x 1 0 * 2 ^ 32)
+    go true p true q = ltb-iff a b (a + 1 * 2 ^ 32) (b + 1 * 2 ^ 32) (λ h. omega arith) (λ h. omega arith)
+    go true p false q = sym (lt-ltb (a + 0 * 2 ^ 32) (b + 1 * 2 ^ 32) (omega arith))
+    go false p true q = sym (le-ltb (a + 1 * 2 ^ 32) (b + 0 * 2 ^ 32) (omega arith))
+    go false p false q = ltb-iff a b (a + 0 * 2 ^ 32) (b + 0 * 2 ^ 32) (λ h. omega arith) (λ h. omega arith)
+
+pub ltS-less : (a b : ℕ) → a < 2 ^ 32 → b < 2 ^ 32 → (ltS a b ≡ true) ↔ (toZ a <ℤ toZ b)
+ltS-less a b ha hb = (λ (e : ltS a b ≡ true). ltZ-yes (subst T (sym (sym (toZ-ltS a b ha hb) ∙ e)) tt), λ l. toZ-ltS a b ha hb ∙ T-true (ltZ (toZ a) (toZ b)) (l .lt))
+  where
+    T-true : (x : Bool) → T x → x ≡ true
+    T-true true t = refl
+    T-true false t = absurd t

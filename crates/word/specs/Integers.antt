@@ -1,6 +1,8 @@
 -- The integers that words stand for. What each operation of Word means is said by these, in proofs/Integers.antt.
 use Prim.Native.Nat.{ℕ, _-_, _%_, _^_}
-use lib.IntN.{ℤ, pos, negsuc, _-ℤ_}
+use mathlib.Core.Path.{_≡_}
+use lib.IntN.{ℤ, pos, negsuc, negℤ, _+ℤ_, _-ℤ_, _*ℤ_}
+use lib.Signed.{_≤ℤ_}
 use Rattle.word.specs.Choice.{pick}
 use Rattle.word.specs.Word.{negative}
 
@@ -16,3 +18,10 @@ ofZ (negsuc n) = 2 ^ 32 - 1 - n % 2 ^ 32
 -- An integer wrapped to 32 bits: the number from - 2 ^ 31 to 2 ^ 31 - 1 that differs from it by a multiple of 2 ^ 32.
 unfoldable pub wrap : ℤ → ℤ
 wrap k = toZ (ofZ k)
+
+-- What makes r the wrapped k: it is from - 2 ^ 31 to 2 ^ 31 - 1, and k is r and so many times 2 ^ 32.
+pub record Wraps (k r : ℤ) : Type 0 where
+  pub least : negℤ (pos (2 ^ 31)) ≤ℤ r
+  pub most : r ≤ℤ pos (2 ^ 31 - 1)
+  pub times : ℤ
+  pub differs : k ≡ r +ℤ times *ℤ pos (2 ^ 32)
