@@ -4,16 +4,17 @@ use mathlib.Core.Path.{_≡_, refl, sym, _∙_, ap, ap₂, subst}
 use mathlib.Core.Logic.{_↔_}
 use mathlib.Core.Bool.{Bool, true, false}
 use native.Mathlib.Omega.{arith}
-use native.Mathlib.Nat.{mul-assoc, mul-right-comm}
+use native.Mathlib.Nat.{mul-assoc, mul-right-comm, mod-le, div-le-self}
 use lib.Dec.{T, ltb, leb, leb→le}
 use borrow.Author.Tests.{lt-ltb, le-ltb}
-use lib.Signed.{ltZ, leZ, _≤ℤ_, _<ℤ_, ltZ-yes}
-use lib.IntN.{ℤ, pos, negsuc, negℤ, subℕ, _+ℤ_, _-ℤ_, _*ℤ_}
+use lib.Signed.{ltZ, leZ, _≤ℤ_, _<ℤ_, ltZ-yes, quotZ, remZ, shrZ}
+use lib.IntN.{ℤ, pos, negsuc, negℤ, natAbs, subℕ, _+ℤ_, _-ℤ_, _*ℤ_}
 use Rattle.word.specs.Choice.{pick, agree}
-use Rattle.word.specs.Word.{addW, subW, negW, mulW, negative, ltS, bitOf}
-use Rattle.word.specs.Integers.{toZ, ofZ, wrap, Wraps}
-use Rattle.word.proofs.Cases.{ltb-iff}
-use Rattle.word.proofs.Sign.{by-sign, negative-is, negative-isnt}
+use Rattle.word.specs.Word.{addW, subW, negW, mulW, negative, magnitude, ltS, quotS, remS, bitOf}
+use Rattle.word.specs.Integers.{toZ, ofZ, wrap, Wraps, Divided, RoundedDown}
+use Rattle.word.proofs.Cases.{by-order, ltb-iff}
+use Rattle.word.proofs.Sign.{by-sign, negative-is, negative-isnt, magnitude-positive, magnitude-negative, magnitude-pos}
+use Rattle.word.proofs.Quotients.{divided, rounded-down}
 use Rattle.word.proofs.Differences.{diff-lt, diff-le, pos-diff, negsuc-diff, neg-pos-diff, up, down, as-diff, diff-ind, diff-eq, diff-add, diff-sub, diff-neg, diff-mul, ltZ-diff}
 
 -- a word stands for itself less its top bit's 2 ^ 32
@@ -29,6 +30,7 @@ ofZ-diff p q = diff-ind (λ p q z. ofZ z ≡ (p + (2 ^ 32 - q % 2 ^ 32)) % 2 ^ 3
   where
     ofZ-pos : (q x : ℕ) → x % 2 ^ 32 ≡ (q + x + (2 ^ 32 - q % 2 ^ 32)) % 2 ^ 32
     ofZ-pos q x = omega arith
+
     ofZ-negsuc : (p x : ℕ) → 2 ^ 32 - 1 - x % 2 ^ 32 ≡ (p + (2 ^ 32 - (p + suc x) % 2 ^ 32)) % 2 ^ 32
     ofZ-negsuc p x = omega arith
 
@@ -71,15 +73,17 @@ apart p q a t u e = rw (toZ-diff a, times-diff t u, diff-add a (bitOf (negative 
 pub wrap-wraps : (k : ℤ) → Wraps k (wrap k)
 unfolding wrap ofZ
 wrap-wraps (pos n) = record {
-    least = toZ-least (ofZ (pos n));
-    most = toZ-most (ofZ (pos n)) (ofZ-lt (pos n));
-    times = subℕ (n / 2 ^ 32 + bitOf (negative (n % 2 ^ 32))) 0;
-    differs = pos-diff n ∙ apart n 0 (n % 2 ^ 32) (n / 2 ^ 32 + bitOf (negative (n % 2 ^ 32))) 0 (omega arith) }
+  least = toZ-least (ofZ (pos n));
+  most = toZ-most (ofZ (pos n)) (ofZ-lt (pos n));
+  times = subℕ (n / 2 ^ 32 + bitOf (negative (n % 2 ^ 32))) 0;
+  differs = pos-diff n ∙ apart n 0 (n % 2 ^ 32) (n / 2 ^ 32 + bitOf (negative (n % 2 ^ 32))) 0 (omega arith);
+}
 wrap-wraps (negsuc n) = record {
-    least = toZ-least (ofZ (negsuc n));
-    most = toZ-most (ofZ (negsuc n)) (ofZ-lt (negsuc n));
-    times = subℕ (bitOf (negative (2 ^ 32 - 1 - n % 2 ^ 32))) (suc (n / 2 ^ 32));
-    differs = negsuc-diff n ∙ apart 0 (suc n) (2 ^ 32 - 1 - n % 2 ^ 32) (bitOf (negative (2 ^ 32 - 1 - n % 2 ^ 32))) (suc (n / 2 ^ 32)) (omega arith) }
+  least = toZ-least (ofZ (negsuc n));
+  most = toZ-most (ofZ (negsuc n)) (ofZ-lt (negsuc n));
+  times = subℕ (bitOf (negative (2 ^ 32 - 1 - n % 2 ^ 32))) (suc (n / 2 ^ 32));
+  differs = negsuc-diff n ∙ apart 0 (suc n) (2 ^ 32 - 1 - n % 2 ^ 32) (bitOf (negative (2 ^ 32 - 1 - n % 2 ^ 32))) (suc (n / 2 ^ 32)) (omega arith);
+}
 
 pub wrap-fits : (r : ℤ) → negℤ (pos (2 ^ 31)) ≤ℤ r → r ≤ℤ pos (2 ^ 31 - 1) → wrap r ≡ r
 unfolding wrap ofZ
@@ -158,3 +162,52 @@ ltS-less a b ha hb = (λ (e : ltS a b ≡ true). ltZ-yes (subst T (sym (sym (toZ
     T-true : (x : Bool) → T x → x ≡ true
     T-true true t = refl
     T-true false t = absurd t
+
+-- Division: the quotient rounds toward zero and wraps (at - 2 ^ 31 by - 1 alone), and the remainder has the left side's sign.
+
+pub natAbs-toZ : (a : ℕ) → a < 2 ^ 32 → natAbs (toZ a) ≡ magnitude a
+natAbs-toZ a l = by-order a (2 ^ 31)
+    (λ h. ap natAbs (toZ-positive a h) ∙ sym (magnitude-positive a h))
+    (λ (h : 2 ^ 31 ≤ a). ap natAbs (toZ-negative a h l) ∙ omega (arith, magnitude-negative a h))
+
+one-more : (a : ℕ) → a < 2 ^ 32 → suc (2 ^ 32 - 1 - a) ≡ 2 ^ 32 - a
+one-more a h = omega arith
+
+-- minus n, as an integer and as a word
+toZ-minus : (n : ℕ) → n ≤ 2 ^ 31 → toZ (negW n) ≡ negℤ (pos n)
+unfolding negW
+toZ-minus zero h = toZ-positive 0 (omega arith)
+toZ-minus (suc n) h = toZ-negative ((2 ^ 32 - suc n) % 2 ^ 32) (omega arith) (omega arith) ∙ ap negsuc (omega arith)
+
+ofZ-minus : (n : ℕ) → n < 2 ^ 32 → ofZ (negℤ (pos n)) ≡ negW n
+unfolding negW
+ofZ-minus n h = ap ofZ (neg-pos-diff n) ∙ ofZ-diff 0 n ∙ omega arith
+
+ofZ-pos : (n : ℕ) → n < 2 ^ 32 → ofZ (pos n) ≡ n
+unfolding ofZ
+ofZ-pos n h = omega arith
+
+pub toZ-remS : (a b : ℕ) → a < 2 ^ 32 → b < 2 ^ 32 → toZ (remS a b) ≡ remZ (toZ a) (toZ b)
+unfolding remS
+toZ-remS a b ha hb = by-order a (2 ^ 31)
+    (λ (h : a < 2 ^ 31). rw (negative-isnt a h, magnitude-positive a h, toZ-positive a h, natAbs-toZ b hb)
+    (toZ-positive (a % magnitude b) (omega (arith, mod-le a (magnitude b)))))
+    (λ (h : 2 ^ 31 ≤ a). rw (negative-is a h, magnitude-negative a h, toZ-negative a h ha, natAbs-toZ b hb, one-more a ha)
+    (toZ-minus ((2 ^ 32 - a) % magnitude b) (omega (arith, mod-le (2 ^ 32 - a) (magnitude b)))))
+
+ofZ-quot : (a b : ℕ) → a < 2 ^ 32 → b < 2 ^ 32 → ofZ (quotZ (toZ a) (toZ b)) ≡ quotS a b
+unfolding quotS
+ofZ-quot a b ha hb = by-order a (2 ^ 31)
+    (λ (h : a < 2 ^ 31). by-order b (2 ^ 31)
+    (λ k. rw (negative-isnt a h, negative-isnt b k, magnitude-positive a h, magnitude-positive b k, toZ-positive a h, toZ-positive b k) (ofZ-pos (a / b) (omega (arith, div-le-self a b))))
+    (λ k. rw (negative-isnt a h, negative-is b k, magnitude-positive a h, magnitude-negative b k, toZ-positive a h, toZ-negative b k hb, one-more b hb) (ofZ-minus (a / (2 ^ 32 - b)) (omega (arith, div-le-self a (2 ^ 32 - b))))))
+    (λ (h : 2 ^ 31 ≤ a). by-order b (2 ^ 31)
+    (λ k. rw (negative-is a h, negative-isnt b k, magnitude-negative a h, magnitude-positive b k, toZ-negative a h ha, toZ-positive b k, one-more a ha) (ofZ-minus ((2 ^ 32 - a) / b) (omega (arith, div-le-self (2 ^ 32 - a) b))))
+    (λ k. rw (negative-is a h, negative-is b k, magnitude-negative a h, magnitude-negative b k, toZ-negative a h ha, toZ-negative b k hb, one-more a ha, one-more b hb) (ofZ-pos ((2 ^ 32 - a) / (2 ^ 32 - b)) (omega (arith, div-le-self (2 ^ 32 - a) (2 ^ 32 - b))))))
+
+pub toZ-quotS : (a b : ℕ) → a < 2 ^ 32 → b < 2 ^ 32 → toZ (quotS a b) ≡ wrap (quotZ (toZ a) (toZ b))
+unfolding wrap
+toZ-quotS a b ha hb = ap toZ (sym (ofZ-quot a b ha hb))
+
+pub toZ-divided : (a b : ℕ) → a < 2 ^ 32 → b < 2 ^ 32 → (b ≡ 0 → ⊥) → Divided (toZ a) (toZ b) (quotZ (toZ a) (toZ b)) (toZ (remS a b))
+toZ-divided a b ha hb h = rw (toZ-remS a b ha hb) (divided (toZ a) (toZ b) (rw (natAbs-toZ b hb) (magnitude-pos b hb h)))

@@ -8,4 +8,5 @@ pub mod Sums
 pub mod SignedOrder
 pub mod WordBytes
 pub mod Differences
+pub mod Quotients
 pub mod Integers
