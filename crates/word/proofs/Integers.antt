@@ -4,16 +4,18 @@ use mathlib.Core.Path.{_≡_, refl, sym, _∙_, ap, ap₂, subst}
 use mathlib.Core.Logic.{_↔_}
 use mathlib.Core.Bool.{Bool, true, false}
 use native.Mathlib.Omega.{arith}
-use native.Mathlib.Nat.{mul-assoc, mul-right-comm, mod-le, div-le-self}
+use native.Mathlib.Nat.{mul-assoc, mul-right-comm, mod-le, div-le-self, div-lt-iff-lt-mul}
+use lib.Pow.{pow-pos, shr-le}
 use lib.Dec.{T, ltb, leb, leb→le}
-use borrow.Author.Tests.{lt-ltb, le-ltb}
+use borrow.Author.Tests.{lt-ltb, le-ltb, le-leb, lt-leb}
 use lib.Signed.{ltZ, leZ, _≤ℤ_, _<ℤ_, ltZ-yes, quotZ, remZ, shrZ}
 use lib.IntN.{ℤ, pos, negsuc, negℤ, natAbs, subℕ, _+ℤ_, _-ℤ_, _*ℤ_}
 use Rattle.word.specs.Choice.{pick, agree}
-use Rattle.word.specs.Word.{addW, subW, negW, mulW, negative, magnitude, ltS, quotS, remS, bitOf}
+use Rattle.word.specs.Word.{addW, subW, negW, mulW, negative, magnitude, ltS, quotS, remS, shrS, signExtend, bitOf}
 use Rattle.word.specs.Integers.{toZ, ofZ, wrap, Wraps, Divided, RoundedDown}
 use Rattle.word.proofs.Cases.{by-order, ltb-iff}
 use Rattle.word.proofs.Sign.{by-sign, negative-is, negative-isnt, magnitude-positive, magnitude-negative, magnitude-pos}
+use Rattle.word.proofs.Extend.{double, weight, signExtend-clear, signExtend-set}
 use Rattle.word.proofs.Quotients.{divided, rounded-down}
 use Rattle.word.proofs.Differences.{diff-lt, diff-le, pos-diff, negsuc-diff, neg-pos-diff, up, down, as-diff, diff-ind, diff-eq, diff-add, diff-sub, diff-neg, diff-mul, ltZ-diff}
 
@@ -211,3 +213,43 @@ toZ-quotS a b ha hb = ap toZ (sym (ofZ-quot a b ha hb))
 
 pub toZ-divided : (a b : ℕ) → a < 2 ^ 32 → b < 2 ^ 32 → (b ≡ 0 → ⊥) → Divided (toZ a) (toZ b) (quotZ (toZ a) (toZ b)) (toZ (remS a b))
 toZ-divided a b ha hb h = rw (toZ-remS a b ha hb) (divided (toZ a) (toZ b) (rw (natAbs-toZ b hb) (magnitude-pos b hb h)))
+
+-- The quotient of two negative words fits, unless it is - 2 ^ 31 by - 1.
+quotient-fits : (m n : ℕ) → m ≤ 2 ^ 31 → 0 < n → (m ≡ 2 ^ 31 → n ≡ 1 → ⊥) → m / n < 2 ^ 31
+quotient-fits m n hm hn h = div-lt-iff-lt-mul hn .1 (by-order m (2 ^ 31)
+    (λ (l : m < 2 ^ 31). omega arith)
+    (λ (l : 2 ^ 31 ≤ m). by-order n 2 (λ (k : n < 2). absurd (h (omega arith) (omega arith))) (λ (k : 2 ≤ n). omega arith)))
+
+pub toZ-quotS-exact : (a b : ℕ) → a < 2 ^ 32 → b < 2 ^ 32 → (a ≡ 2 ^ 31 → b ≡ 2 ^ 32 - 1 → ⊥) → toZ (quotS a b) ≡ quotZ (toZ a) (toZ b)
+unfolding quotS
+toZ-quotS-exact a b ha hb e = by-order a (2 ^ 31)
+    (λ (h : a < 2 ^ 31). by-order b (2 ^ 31)
+    (λ k. rw (negative-isnt a h, negative-isnt b k, magnitude-positive a h, magnitude-positive b k, toZ-positive a h, toZ-positive b k) (toZ-positive (a / b) (omega (arith, div-le-self a b))))
+    (λ k. rw (negative-isnt a h, negative-is b k, magnitude-positive a h, magnitude-negative b k, toZ-positive a h, toZ-negative b k hb, one-more b hb) (toZ-minus (a / (2 ^ 32 - b)) (omega (arith, div-le-self a (2 ^ 32 - b))))))
+    (λ (h : 2 ^ 31 ≤ a). by-order b (2 ^ 31)
+    (λ k. rw (negative-is a h, negative-isnt b k, magnitude-negative a h, magnitude-positive b k, toZ-negative a h ha, toZ-positive b k, one-more a ha) (toZ-minus ((2 ^ 32 - a) / b) (omega (arith, div-le-self (2 ^ 32 - a) b))))
+    (λ (k : 2 ^ 31 ≤ b). rw (negative-is a h, negative-is b k, magnitude-negative a h, magnitude-negative b k, toZ-negative a h ha, toZ-negative b k hb, one-more a ha, one-more b hb)
+    (toZ-positive ((2 ^ 32 - a) / (2 ^ 32 - b)) (quotient-fits (2 ^ 32 - a) (2 ^ 32 - b) (omega arith) (omega arith) (λ p q. e (omega arith) (omega arith))))))
+
+-- The shift that fills with the top bit rounds down.
+
+pub toZ-shrS : (a s : ℕ) → a < 2 ^ 32 → toZ (shrS a s) ≡ shrZ (toZ a) (2 ^ s)
+unfolding shrS
+toZ-shrS a s l = by-order a (2 ^ 31)
+    (λ (h : a < 2 ^ 31). rw (negative-isnt a h, toZ-positive a h) (toZ-positive (a / 2 ^ s) (omega (arith, shr-le a s))))
+    (λ (h : 2 ^ 31 ≤ a). rw (negative-is a h, toZ-negative a h l) (toZ-negative (2 ^ 32 - 1 - (2 ^ 32 - 1 - a) / 2 ^ s) (omega (arith, shr-le (2 ^ 32 - 1 - a) s)) (omega arith) ∙ ap negsuc (omega (arith, shr-le (2 ^ 32 - 1 - a) s))))
+
+pub shrS-rounded : (a s : ℕ) → a < 2 ^ 32 → RoundedDown (toZ a) (2 ^ s) (toZ (shrS a s))
+shrS-rounded a s l = rw (toZ-shrS a s l) (rounded-down (toZ a) (2 ^ s) (pow-pos s))
+
+-- A number of so many bits, sign-extended, stands for itself, less 2 ^ bits if its top bit is set.
+
+pos-sub : (m n : ℕ) → m < n → pos m -ℤ pos n ≡ negsuc (n - suc m)
+pos-sub m n h = ap₂ (λ x y. x -ℤ y) (pos-diff m) (pos-diff n) ∙ diff-sub m 0 n 0 ∙ diff-lt (m + 0) (0 + n) (omega arith) ∙ ap negsuc (omega arith)
+
+pub toZ-signExtend : (bits n : ℕ) → 0 < bits → bits ≤ 32 → n < 2 ^ bits → toZ (signExtend bits n) ≡ pick (leb (2 ^ (bits - 1)) n) (pos n -ℤ pos (2 ^ bits)) (pos n)
+toZ-signExtend bits n some most h = by-order n (2 ^ (bits - 1))
+    (λ (l : n < 2 ^ (bits - 1)). rw (signExtend-clear bits some most n l, lt-leb (2 ^ (bits - 1)) n l) (toZ-positive n (omega (arith, weight bits some most))))
+    (λ (l : 2 ^ (bits - 1) ≤ n). rw (signExtend-set bits some most n l h, le-leb (2 ^ (bits - 1)) n l)
+    (toZ-negative (n + (2 ^ 32 - 2 ^ bits)) (omega (arith, weight bits some most, double bits some)) (omega (arith, weight bits some most, double bits some))
+    ∙ ap negsuc (omega (arith, weight bits some most, double bits some)) ∙ sym (pos-sub n (2 ^ bits) h)))
