@@ -92,6 +92,7 @@ negative-half a b h ha hb = (above (a * b) (mul-le-mul-right b (le-of-lt ha)), b
   where
     above : (p : ℕ) → p ≤ 2 ^ 32 * b → p % 2 ^ 64 / 2 ^ 32 ≤ b
     above p l = omega arith
+
     below : (p : ℕ) → p < 2 ^ 64 → 2 ^ 31 * b ≤ p → b ≤ 2 * (p % 2 ^ 64 / 2 ^ 32) + 1
     below p k l = omega arith
 
@@ -106,10 +107,13 @@ both-negative-half a b h ha k hb = (low (a * b) rest (product a b ha hb) whole, 
   where
     rest : ℕ
     rest = (2 ^ 32 - a) * (2 ^ 32 - b)
+
     whole : rest + 2 ^ 32 * (a + b) ≡ a * b + 2 ^ 64
     whole = lacks a b (2 ^ 32 - a) (2 ^ 32 - b) (omega arith) (omega arith)
+
     low : (p z : ℕ) → p < 2 ^ 64 → z + 2 ^ 32 * (a + b) ≡ p + 2 ^ 64 → a + b ≤ p % 2 ^ 64 / 2 ^ 32 + 2 ^ 32
     low p z l e = omega arith
+
     high : (p z : ℕ) → p < 2 ^ 64 → z ≤ 2 ^ 62 → z + 2 ^ 32 * (a + b) ≡ p + 2 ^ 64 → p % 2 ^ 64 / 2 ^ 32 + 2 ^ 32 < a + b + 2 ^ 31
     high p z l m e = omega arith
 
@@ -128,8 +132,8 @@ unfolding bitOf subW
 mixed-half a b ha hb = by-order a (2 ^ 31)
     (λ (h : a < 2 ^ 31). rw (negative-isnt a h, ← mixed-positive a b h, negative-isnt (mulhUU a b) (positive-half a b h hb)) (omega arith))
     (λ (h : 2 ^ 31 ≤ a). rw (negative-is a h)
-        (let k = negative-half a b h ha hb in
-        omega (arith, once (mulhUU a b) (mulhSU a b) b hb (k .0) (k .1) (mixed-negative a b hb h))))
+    (let k = negative-half a b h ha hb in
+    omega (arith, once (mulhUU a b) (mulhSU a b) b hb (k .0) (k .1) (mixed-negative a b hb h))))
 
 unsigned-comm : (a b : ℕ) → mulhUU a b ≡ mulhUU b a
 unfolding mulhUU
@@ -152,5 +156,5 @@ unfolding bitOf
 signed-half a b ha hb = by-order b (2 ^ 31)
     (λ (h : b < 2 ^ 31). rw (negative-isnt b h, ← signed-positive a b h) (omega (arith, mixed-half a b ha hb)))
     (λ (h : 2 ^ 31 ≤ b). by-order a (2 ^ 31)
-        (λ (k : a < 2 ^ 31). rw (negative-is b h, negative-isnt a k) (omega (arith, right-negative a b k hb h)))
-        (λ (k : 2 ^ 31 ≤ a). rw (negative-is b h, negative-is a k) (omega (arith, both-negative a b k ha h hb))))
+    (λ (k : a < 2 ^ 31). rw (negative-is b h, negative-isnt a k) (omega (arith, right-negative a b k hb h)))
+    (λ (k : 2 ^ 31 ≤ a). rw (negative-is b h, negative-is a k) (omega (arith, both-negative a b k ha h hb))))
