@@ -9,4 +9,5 @@ pub mod SignedOrder
 pub mod WordBytes
 pub mod Differences
 pub mod Quotients
+pub mod Readings
 pub mod Integers
