@@ -1,0 +1,5 @@
+pub mod Cases
+pub mod Sign
+pub mod Halves
+pub mod Extend
+pub mod ByZero
