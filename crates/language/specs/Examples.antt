@@ -4,11 +4,11 @@ use mathlib.Core.List.{List, [], _∷_, _++_}
 use mathlib.Core.Option.{Option, none, some}
 use mathlib.Core.Path.{_≡_, refl}
 use Prim.Native.Nat.{ℕ, _-_, _^_}
-use Prim.Native.Char.{code}
 use Prim.Native.String.{String}
 use Rattle.word.specs.Word.{addW, subW, mulW, negW, negative, magnitude, ltS, quotS, remS, bitOf}
 use Rattle.language.specs.Tree.{Name, Ty, int, bool, negate, not, eq, ne, lt, le, gt, ge, add, sub, mul, div, rem, or, and, strict, Strict, Param, Item, array, function, Expr, Stmt, Block, number, truth, name, element, call, unary, binary, declare, assign, store, when, choose, while, leave, give, emit, run, end, then}
 use Rattle.language.specs.Tree as T
+use Rattle.language.specs.Tokens.{bytes}
 use Rattle.language.specs.Core.{Program}
 use Rattle.language.specs.Core as C
 use Rattle.language.specs.Rules.{Ruled, keeps, breaks, main-name, elaborate, _>>=_, need, found, sameName, globalOf, localOf, arrayOf, functionOf, declare as declareItem, declareAll, mainOf, want, changed, joined, combined, indexed, fit, called, known, expr, exprs, fresh, leaves, gives, stmt, block as blockOf, parameters, isReturn, endsInReturn, functionFrom, functionsFrom}
@@ -17,10 +17,6 @@ use Rattle.language.specs.Meaning.{World, Stop, trapped, outOfFuel, Outc
 -- Writing trees
 
 infix 30 _⟨_⟩_
-unfoldable pub bytes : String → List ℕ
-bytes String.[] = []
-bytes (String._∷_ c s) = code c ∷ bytes s
-
 abbrev var : String → Expr
 var x = name 0 (bytes x)
 

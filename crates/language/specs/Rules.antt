@@ -11,6 +11,7 @@ use lib.ListN.{length}
 use Rattle.word.specs.Choice.{pick, both}
 use Rattle.language.specs.Tree.{Place, Name, Ty, int, bool, Unary, negate, not, Strict, eq, ne, lt, le, gt, ge, add, sub, mul, div, rem, Binary, or, and, strict, Param, Item, array, function}
 use Rattle.language.specs.Tree as T
+use Rattle.language.specs.Tokens.{bytes}
 use Rattle.language.specs.Core.{Array, Function, Program}
 use Rattle.language.specs.Core as C
 
@@ -163,9 +164,8 @@ declareAll (i ∷ is) d = do
 
 -- "There is a function `main` without parameters or result type."
 
--- m a i n
 abbrev pub main-name : Name
-main-name = 109 ∷ 97 ∷ 105 ∷ 110 ∷ []
+main-name = bytes "main"
 
 unfoldable pub mainOf : List Global → Place → Ruled ℕ
 mainOf gs end = do
