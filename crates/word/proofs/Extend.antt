@@ -2,8 +2,8 @@
 use Prim.Native.Nat.{ℕ, suc, _+_, _-_, _*_, _/_, _%_, _^_, _<_, _≤_}
 use mathlib.Core.Path.{_≡_, refl, sym, _∙_, ap}
 use native.Mathlib.Omega.{arith}
-use native.Mathlib.Nat.{zero-mul, one-mul, zero-add, add-zero, div-eq-of-lt, pow-succ'}
-use lib.Pow.{pow-pos, pow-mono}
+use native.Mathlib.Nat.{zero-mul, one-mul, zero-add, add-zero, div-eq-of-lt, pow-succ', mul-assoc, add-mul-mod-self-right, mod-eq-of-lt}
+use lib.Pow.{pow-pos, pow-mono, high-ones}
 use lib.Bits.{bitXor, xor-block, xor-zero-r}
 use lib.Arith.{digits-div}
 use Rattle.word.specs.Word.{subW, signExtend}
@@ -59,3 +59,18 @@ module _ (bits : ℕ) (some : 0 < bits) (most : bits ≤ 32) where
 
       small : 2 ^ (bits - 1) ≤ n → n - 2 ^ (bits - 1) < 2 ^ (bits - 1)
       small l = omega (arith, double bits some)
+
+  -- the bits above are a number of whole 2 ^ bits
+  above : 2 ^ 32 - 2 ^ bits ≡ (2 ^ (32 - bits) - 1) * 2 ^ bits
+  above = ap (λ (m : ℕ). 2 ^ m - 2 ^ bits) e ∙ high-ones (32 - bits) bits
+    where
+      e : 32 ≡ 32 - bits + bits
+      e = omega arith
+
+  -- the lower bits are the number
+  pub signExtend-low : (n : ℕ) → n < 2 ^ bits → signExtend bits n % 2 ^ bits ≡ n
+  unfolding signExtend
+  signExtend-low n h =
+      ap (λ (m : ℕ). (n + m) % 2 ^ bits) (ap (λ (m : ℕ). n / 2 ^ (bits - 1) * m) above ∙ sym (mul-assoc (n / 2 ^ (bits - 1)) (2 ^ (32 - bits) - 1) (2 ^ bits)))
+      ∙ add-mul-mod-self-right n (n / 2 ^ (bits - 1) * (2 ^ (32 - bits) - 1)) (2 ^ bits)
+      ∙ mod-eq-of-lt h
