@@ -7,7 +7,7 @@ use Rattle.word.specs.Word.{addW}
 use Rattle.processor.specs.Instructions.{Extended, Even}
 use Rattle.symbolic.specs.Symbolic.{pos, positionOf}
 use Rattle.symbolic.specs.Real.{distance}
-use Rattle.symbolic.specs.Fine.{most-instructions, near}
+use Rattle.symbolic.specs.Fine.{near, far}
 use Rattle.symbolic.proofs.Immediates.{small13, minus13, small21, minus21}
 
 -- the address of any position that matters is a word
@@ -50,9 +50,9 @@ branch-holds k t hk ht h1 h2 = (go (decLt t k), even-distance k t hk ht)
     go (yes h) = rw (backward k t hk ht h) (minus13 (4 * (k - t)) (omega arith) (omega arith))
     go (no h) = rw (onward k t hk ht (omega arith)) (small13 (4 * (t - k)) (omega arith))
 
-pub jump-holds : (k t : ℕ) → k ≤ most-instructions → t ≤ 2 * most-instructions → Extended 21 (distance k t) × Even (distance k t)
-jump-holds k t hk ht = (go (decLt t k), even-distance k t (omega arith) (omega arith))
+pub jump-holds : (k t : ℕ) → k < reachable → t < reachable → t < k + far → k ≤ t + far → Extended 21 (distance k t) × Even (distance k t)
+jump-holds k t hk ht h1 h2 = (go (decLt t k), even-distance k t hk ht)
   where
     go : Dec (t < k) → Extended 21 (distance k t)
-    go (yes h) = rw (backward k t (omega arith) (omega arith) h) (minus21 (4 * (k - t)) (omega arith) (omega arith))
-    go (no h) = rw (onward k t (omega arith) (omega arith) (omega arith)) (small21 (4 * (t - k)) (omega arith))
+    go (yes h) = rw (backward k t hk ht h) (minus21 (4 * (k - t)) (omega arith) (omega arith))
+    go (no h) = rw (onward k t hk ht (omega arith)) (small21 (4 * (t - k)) (omega arith))

@@ -10,17 +10,18 @@ use Rattle.processor.specs.Instructions.{Extended}
 -- of bits whose half is h
 small : (h c n : ℕ) → n < h → n ≡ n % (2 * h) + n % (2 * h) / h * c
 small h c n k =
-  let a : n % (2 * h) ≡ n = mod-eq-of-lt (omega arith) in
-  let b : n / h ≡ 0 = digits-div 0 k in
-  rw (a, b) (omega arith)
+    let a : n % (2 * h) ≡ n = mod-eq-of-lt (omega arith) in
+    let z : n ≡ 0 * h + n = omega arith in
+    let b : n / h ≡ 0 = ap (λ (w : ℕ). w / h) z ∙ digits-div 0 k in
+    rw (a, b) (omega arith)
 
 minus : (h q n : ℕ) → 2 ^ 32 ≡ (q + 1) * (2 * h) → 0 < n → n ≤ h → 2 ^ 32 - n ≡ (2 ^ 32 - n) % (2 * h) + (2 ^ 32 - n) % (2 * h) / h * (2 ^ 32 - 2 * h)
 minus h q n e k l =
-  let s : 2 ^ 32 - n ≡ q * (2 * h) + (2 * h - n) = omega (arith, e) in
-  let a : (2 ^ 32 - n) % (2 * h) ≡ 2 * h - n = ap (λ (w : ℕ). w % (2 * h)) s ∙ digits-mod q (omega arith) in
-  let t : 2 * h - n ≡ 1 * h + (h - n) = omega arith in
-  let b : (2 * h - n) / h ≡ 1 = ap (λ (w : ℕ). w / h) t ∙ digits-div 1 (omega arith) in
-  rw (a, b) ?
+    let s : 2 ^ 32 - n ≡ q * (2 * h) + (2 * h - n) = omega (arith, e) in
+    let a : (2 ^ 32 - n) % (2 * h) ≡ 2 * h - n = ap (λ (w : ℕ). w % (2 * h)) s ∙ digits-mod q (omega arith) in
+    let t : 2 * h - n ≡ 1 * h + (h - n) = omega arith in
+    let b : (2 * h - n) / h ≡ 1 = ap (λ (w : ℕ). w / h) t ∙ digits-div 1 (omega arith) in
+    rw (a, b) (omega (arith, e))
 
 -- of 12 bits (loads, stores, operations with an immediate), 13 (branches), 21 (jumps)
 pub small12 : (n : ℕ) → n < 2 ^ 11 → Extended 12 n

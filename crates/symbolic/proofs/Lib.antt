@@ -5,3 +5,6 @@ pub mod Memory
 pub mod Operations
 pub mod Immediates
 pub mod Distances
+pub mod Encodable
+pub mod Match
+pub mod Instructions

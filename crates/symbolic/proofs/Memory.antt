@@ -23,9 +23,9 @@ use Rattle.symbolic.proofs.Words.{write-length, word-other, word-same}
 pub reach-facts : (a : ℕ) → reaches Word a ≡ true → (a % 4 ≡ 0) × (a + 4 ≤ memory-bytes) × (data-start ≤ a)
 unfolding reaches
 reach-facts a e =
-  let p = both-true (eqb (a % 4) 0) _ e in
-  let q = both-true (leb (a + 4) memory-bytes) _ (p .1) in
-  (eqb-true _ _ (p .0), leb-true _ _ (q .0), leb-true _ _ (q .1))
+    let p = both-true (eqb (a % 4) 0) _ e in
+    let q = both-true (leb (a + 4) memory-bytes) _ (p .1) in
+    (eqb-true _ _ (p .0), leb-true _ _ (q .0), leb-true _ _ (q .1))
 
 pub in-reach : (a : ℕ) → a % 4 ≡ 0 → a + 4 ≤ memory-bytes → data-start ≤ a → reaches Word a ≡ true
 unfolding reaches
@@ -38,7 +38,7 @@ pub record SameMemory (code : List Instruction) (f : ℕ → ℕ) (m : List ℕ)
   pub code-in : (k : ℕ) → k < length code → wordAt m (pos k) ≡ encodeOf (real k (getD code k bad))
 
 pub stored : {code : List Instruction} {f : ℕ → ℕ} {m : List ℕ} (a v : ℕ) → length code ≤ most-instructions → SameMemory code f m → reaches Word a ≡ true → v < 2 ^ 32
-  → SameMemory code (updated f a v) (writeAt Word m a v)
+    → SameMemory code (updated f a v) (writeAt Word m a v)
 stored {code} {f} {m} a v short s ha hv =
     let A = reach-facts a ha in
     record {
@@ -50,10 +50,11 @@ stored {code} {f} {m} a v short s ha hv =
   where
     reads : (b : ℕ) → reaches Word b ≡ true → (t : Bool) → eqb b a ≡ t → wordAt (writeAt Word m a v) b ≡ pick t v (f b)
     reads b hb true e =
-      let A = reach-facts a ha in
-      let l = s .size in
-      ap (λ (w : ℕ). wordAt (writeAt Word m a v) w) (eqb-true _ _ e) ∙ word-same m a v (omega arith) hv
+        let A = reach-facts a ha in
+        let l = s .size in
+        ap (λ (w : ℕ). wordAt (writeAt Word m a v) w) (eqb-true _ _ e) ∙ word-same m a v (omega arith) hv
     reads b hb false e = word-other m a v b (reach-facts a ha .0) (reach-facts b hb .0) (eqb-false _ _ e) ∙ s .reads b hb
+
     words : (b : ℕ) → reaches Word b ≡ true → (t : Bool) → pick t v (f b) < 2 ^ 32
     words b hb true = hv
     words b hb false = s .words b hb

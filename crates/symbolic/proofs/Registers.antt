@@ -56,10 +56,10 @@ set-other b c n j v x ne = go (both (eqb (first c) (first b)) (eqb j n)) refl
   where
     go : (t : Bool) → both (eqb (first c) (first b)) (eqb j n) ≡ t → pick t v (x c j) ≡ x c j
     go true e =
-      let h = both-true (eqb (first c) (first b)) (eqb j n) e in
-      let f : first c ≡ first b = eqb-true _ _ (h .0) in
-      let g : j ≡ n = eqb-true _ _ (h .1) in
-      absurd (ne (omega arith))
+        let h = both-true (eqb (first c) (first b)) (eqb j n) e in
+        let f : first c ≡ first b = eqb-true _ _ (h .0) in
+        let g : j ≡ n = eqb-true _ _ (h .1) in
+        absurd (ne (omega arith))
     go false e = refl
 
 set-same : (b c : Bank) (n j v : ℕ) (x : Registers) → first c ≡ first b → j ≡ n → set (reg b n) v x c j ≡ v
@@ -108,11 +108,12 @@ written {x} {l} (reg b n) v s ok h = record { reads = reads; words = words; coun
       where
         go : Dec (first c + j ≡ first b + n) → register (setRegister l (first b + n) v) (first c + j) ≡ set (reg b n) v x c j
         go (yes e) =
-          let p = first-positive b in
-          let q : first b + n < 32 = number-small (reg b n) ok in
-          let one : first c ≡ first b = one-bank c b j n k ok e in
-          ap (λ (i : ℕ). register (setRegister l (first b + n) v) i) e ∙ list-same l (first b + n) v (omega arith) (rw (s .count) q) ∙ sym (set-same b c n j v x one (omega arith))
+            let p = first-positive b in
+            let q : first b + n < 32 = number-small (reg b n) ok in
+            let one : first c ≡ first b = one-bank c b j n k ok e in
+            ap (λ (i : ℕ). register (setRegister l (first b + n) v) i) e ∙ list-same l (first b + n) v (omega arith) (rw (s .count) q) ∙ sym (set-same b c n j v x one (omega arith))
         go (no ne) = list-other l (first b + n) (first c + j) v ne ∙ s .reads (reg c j) k ∙ sym (set-other b c n j v x ne)
+
     words : (r : Reg) → Valid r → get r (set (reg b n) v x) < 2 ^ 32
     words x0 k = omega arith
     words (reg c j) k = go (both (eqb (first c) (first b)) (eqb j n))

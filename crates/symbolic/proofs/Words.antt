@@ -19,21 +19,24 @@ four e f g h = rw (e, f, g, h)
 module _ (m : List ℕ) (a w x y z : ℕ) where
   abbrev m1 : List ℕ
   m1 = set m a w
+
   abbrev m2 : List ℕ
   m2 = set m1 (a + 1) x
+
   abbrev m3 : List ℕ
   m3 = set m2 (a + 2) y
+
   abbrev m4 : List ℕ
   m4 = set m3 (a + 3) z
 
   others : (j : ℕ) → (j ≡ a → ⊥) → (j ≡ a + 1 → ⊥) → (j ≡ a + 2 → ⊥) → (j ≡ a + 3 → ⊥) → getD m4 j 0 ≡ getD m j 0
   others j h0 h1 h2 h3 =
-    getD-set-other m3 (a + 3) j z 0 h3 ∙ getD-set-other m2 (a + 2) j y 0 h2 ∙ getD-set-other m1 (a + 1) j x 0 h1 ∙ getD-set-other m a j w 0 h0
+      getD-set-other m3 (a + 3) j z 0 h3 ∙ getD-set-other m2 (a + 2) j y 0 h2 ∙ getD-set-other m1 (a + 1) j x 0 h1 ∙ getD-set-other m a j w 0 h0
 
   these : a + 4 ≤ length m → wordAt m4 a ≡ wordOf w x y z
   unfolding wordAt
   these h =
-    four
+      four
       (getD-set-other m3 (a + 3) a z 0 (λ e. omega arith) ∙ getD-set-other m2 (a + 2) a y 0 (λ e. omega arith) ∙ getD-set-other m1 (a + 1) a x 0 (λ e. omega arith) ∙ getD-set-same m a w 0 (omega arith))
       (getD-set-other m3 (a + 3) (a + 1) z 0 (λ e. omega arith) ∙ getD-set-other m2 (a + 2) (a + 1) y 0 (λ e. omega arith) ∙ getD-set-same m1 (a + 1) x 0 (rw length-set (omega arith)))
       (getD-set-other m3 (a + 3) (a + 2) z 0 (λ e. omega arith) ∙ getD-set-same m2 (a + 2) y 0 (simp length-set (omega arith)))

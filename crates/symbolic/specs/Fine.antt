@@ -5,12 +5,15 @@ use lib.ListN.{length}
 use Rattle.processor.specs.Instructions.{aluKey, immediates, shifts, Extended, Upper, Among}
 use Rattle.symbolic.specs.Symbolic.{Reg, x0, reg, width, Instruction, lui, opi, shift, mv, op, lw, sw, branch, branchBack, jump, jumpBack, call, ret, ecall, bad}
 
--- The longest code, in instructions (document 03 §5). A jump reaches all of it from anywhere in it, a branch this many instructions.
+-- The longest code, in instructions (document 03 §5), and how far a branch and a jump reach: a jump all over the code.
 abbrev pub most-instructions : ℕ
 most-instructions = 131072
 
 abbrev pub near : ℕ
 near = 1024
+
+abbrev pub far : ℕ
+far = 262144
 
 abbrev pub Valid : Reg → Type 0
 Valid x0 = Unit {0}
@@ -26,7 +29,7 @@ Fine (lw r q n) = Valid r × Valid q × Extended 12 n
 Fine (sw r q n) = Valid r × Valid q × Extended 12 n
 Fine (branch c p q n) = Valid p × Valid q × (n < near)
 Fine (branchBack c p q n) = Valid p × Valid q × (n ≤ near)
-Fine (jump n) = n ≤ most-instructions
+Fine (jump n) = n < far
 Fine (jumpBack n) = Unit {0}
 Fine (call t) = t ≤ most-instructions
 Fine ret = Unit {0}

@@ -201,3 +201,15 @@ module _ (room : ℕ) where
   unfoldable pub run : List Instruction → ℕ → State → State
   run code zero σ = σ
   run code (suc n) σ = run code n (step code σ)
+
+  -- how many of n steps a machine that goes on makes: all, or those up to its stop
+  abbrev pub countBy : Status → ℕ → ℕ
+  countBy Going n = suc n
+  countBy Exit n = 1
+  countBy (Trap t) n = 1
+  countBy (Fault f) n = 1
+  countBy Limit n = 1
+
+  unfoldable pub count : List Instruction → ℕ → State → ℕ
+  count code zero σ = 0
+  count code (suc n) σ = countBy (step code σ .status) (count code n (step code σ))
