@@ -8,3 +8,4 @@ pub mod Distances
 pub mod Encodable
 pub mod Match
 pub mod Instructions
+pub mod Runs

@@ -23,7 +23,6 @@ ofZ-diff p q = diff-ind (λ p q z. ofZ z ≡ (p + (2 ^ 32 - q % 2 ^ 32)) % 2 ^ 3
   where
     ofZ-pos : (q x : ℕ) → x % 2 ^ 32 ≡ (q + x + (2 ^ 32 - q % 2 ^ 32)) % 2 ^ 32
     ofZ-pos q x = omega arith
-
     ofZ-negsuc : (p x : ℕ) → 2 ^ 32 - 1 - x % 2 ^ 32 ≡ (p + (2 ^ 32 - (p + suc x) % 2 ^ 32)) % 2 ^ 32
     ofZ-negsuc p x = omega arith
 
