@@ -9,3 +9,4 @@ pub mod Encodable
 pub mod Match
 pub mod Instructions
 pub mod Runs
+pub mod Lock

@@ -63,8 +63,8 @@ module _ (room : ℕ) (code : List Instruction) where
 
   pub later : (m n : ℕ) (σ : State) → m ≤ n → Stopped (run room code m σ .status) → run room code n σ ≡ run room code m σ
   later m n σ h k =
-    let e : n ≡ m + (n - m) = omega arith in
-    ap (λ (i : ℕ). run room code i σ) e ∙ run-add m (n - m) σ ∙ rests (n - m) (run room code m σ) k
+      let e : n ≡ m + (n - m) = omega arith in
+      ap (λ (i : ℕ). run room code i σ) e ∙ run-add m (n - m) σ ∙ rests (n - m) (run room code m σ) k
 
   exec-log : (i : Instruction) (σ : State) → Begins (σ .log) (exec1 room i σ .log)
   unfolding ecallOf
@@ -82,9 +82,9 @@ module _ (room : ℕ) (code : List Instruction) where
   exec-log (call t) σ = begins-same
   exec-log ret σ = begins-pick (eqb (pos (positionOf (value σ ra))) (value σ ra)) _ _ (σ .log) begins-same begins-same
   exec-log ecall σ =
-    begins-pick (eqb (value σ request) 0) _ _ (σ .log) begins-same
-    (begins-pick (eqb (value σ request) 1) _ _ (σ .log) (begins-pick (ltb (length (σ .log)) room) _ _ (σ .log) (value σ answer ∷ [], refl) begins-same)
-    (begins-pick (eqb (value σ request) 2) _ _ (σ .log) begins-same begins-same))
+      begins-pick (eqb (value σ request) 0) _ _ (σ .log) begins-same
+      (begins-pick (eqb (value σ request) 1) _ _ (σ .log) (begins-pick (ltb (length (σ .log)) room) _ _ (σ .log) (value σ answer ∷ [], refl) begins-same)
+      (begins-pick (eqb (value σ request) 2) _ _ (σ .log) begins-same begins-same))
   exec-log bad σ = begins-same
 
   step-log : (s : Status) (σ : State) → Begins (σ .log) (stepBy room s code σ .log)

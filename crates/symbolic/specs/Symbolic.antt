@@ -208,7 +208,7 @@ module _ (room : ℕ) where
   countBy Exit n = 1
   countBy (Trap t) n = 1
   countBy (Fault f) n = 1
-  countBy Limit n = 1
+  countBy Limit n = 0
 
   unfoldable pub count : List Instruction → ℕ → State → ℕ
   count code zero σ = 0
