@@ -10,3 +10,5 @@ pub mod Match
 pub mod Instructions
 pub mod Runs
 pub mod Lock
+pub mod Placed
+pub mod Start

@@ -12,7 +12,7 @@ use Rattle.processor.specs.declared.Cond.{Cond}
 use Rattle.processor.specs.declared.Width.the-variants.{Word}
 use Rattle.processor.specs.declared.Status.{Status}
 use Rattle.processor.specs.declared.Status.the-variants.{Going, Exit, Trap, Fault, Limit}
-use Rattle.processor.specs.Machine.{code-start}
+use Rattle.processor.specs.Machine.{code-start, data-start}
 use Rattle.processor.specs.Execute.{aluOf, condOf, reaches}
 
 -- Registers.
@@ -139,6 +139,10 @@ pos k = code-start + 4 * k
 
 abbrev pub positionOf : ℕ → ℕ
 positionOf a = (a - code-start) / 4
+
+-- The state at the start, with these words in the input block: all else is 0.
+abbrev pub initial : List ℕ → State
+initial arrays = state Going 0 (λ b n. 0) (λ a. getD arrays ((a - data-start) / 4) 0) []
 
 -- Steps.
 
