@@ -12,3 +12,5 @@ pub mod Runs
 pub mod Lock
 pub mod Placed
 pub mod Start
+pub mod Arrays
+pub mod Follows

@@ -1,6 +1,6 @@
 -- Runs of the symbolic processor by itself: one after the other, after a stop, at a known instruction; the log only grows.
 use Prim.Native.Nat.{ℕ, zero, suc, _+_, _-_, _≤_, _<_}
-use mathlib.Core.Path.{_≡_, refl, sym, ap, _∙_}
+use mathlib.Core.Path.{_≡_, refl, sym, ap, _∙_, subst}
 use mathlib.Core.Bool.{Bool, true, false}
 use mathlib.Core.List.{List, [], _∷_, _++_, append-nil, append-assoc}
 use native.Mathlib.Nat.{zero-add, suc-add}
@@ -111,3 +111,17 @@ module _ (room : ℕ) (code : List Instruction) where
   unfolding count
   count-most zero σ = omega arith
   count-most (suc n) σ = count-by (step room code σ .status) n (count room code n (step room code σ)) (count-most n (step room code σ))
+
+  -- and none after it
+  count-same : (s : Status) (a b : ℕ) → (s ≡ Going → a ≡ b) → countBy room s a ≡ countBy room s b
+  count-same Going a b h = ap suc (h refl)
+  count-same Exit a b h = refl
+  count-same (Trap t) a b h = refl
+  count-same (Fault f) a b h = refl
+  count-same Limit a b h = refl
+
+  pub count-later : (m n : ℕ) (σ : State) → σ .status ≡ Going → Stopped (run room code m σ .status) → count room code (m + n) σ ≡ count room code m σ
+  unfolding run count
+  count-later zero n σ on h = absurd (subst Stopped on h)
+  count-later (suc m) n σ on h =
+      rw suc-add (count-same (step room code σ .status) (count room code (m + n) (step room code σ)) (count room code m (step room code σ)) (λ on′. count-later m n (step room code σ) on′ h))
