@@ -5,7 +5,7 @@ use mathlib.Core.List.{List}
 use native.Mathlib.Omega.{arith}
 use lib.ListN.{length, getD, take, drop, length-drop}
 use lib.Seq.{length-take-le, getD-take, getD-drop, ext-getD}
-use Rattle.word.specs.Bytes.{wordOf, wordsOfBytes}
+use Rattle.word.specs.Bytes.{wordsOfBytes}
 use Rattle.word.proofs.WordBytes.{wordsOfBytes-length, wordsOfBytes-at}
 use Rattle.processor.specs.Machine.{Machine, memory-bytes, data-start, wordAt}
 use Rattle.processor.specs.Image.{arraysOf}

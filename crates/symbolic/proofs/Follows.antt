@@ -10,14 +10,14 @@ use borrow.Author.Tests.{le-leb, eq-eqb}
 use Rattle.word.specs.Bytes.{bytesOfWords}
 use Rattle.processor.specs.declared.Status.{Status}
 use Rattle.processor.specs.declared.Status.the-variants.{Going, Exit, Trap, Fault, Limit}
-use Rattle.processor.specs.Machine.{Machine, memory-bytes, data-start, startOf}
-use Rattle.processor.specs.Run.{Run, runOf}
+use Rattle.processor.specs.Machine.{memory-bytes, data-start, startOf}
+use Rattle.processor.specs.Run.{Run}
 use Rattle.processor.specs.Image.{longest-code, fits, runImage, arraysOf}
 use Rattle.symbolic.specs.Symbolic.{Instruction, State, initial, run, count}
 use Rattle.symbolic.specs.Real.{imageOf}
 use Rattle.symbolic.specs.Fine.{AllFine, most-instructions}
 use Rattle.symbolic.proofs.Instructions.{NoFault}
-use Rattle.symbolic.proofs.Runs.{Stopped, later, count-most, count-later}
+use Rattle.symbolic.proofs.Runs.{Stopped, later, count-later}
 use Rattle.symbolic.proofs.Lock.{shown, Ran, run-lock}
 use Rattle.symbolic.proofs.Start.{image-length, starts}
 use Rattle.symbolic.proofs.Arrays.{Holds, arrays-are}

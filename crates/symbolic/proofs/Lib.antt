@@ -11,6 +11,7 @@ pub mod Instructions
 pub mod Runs
 pub mod Lock
 pub mod Placed
+pub mod Steps
 pub mod Start
 pub mod Arrays
 pub mod Follows

@@ -1,13 +1,13 @@
 -- Memory as a map of words is memory of bytes from 0x100000 on, with the code's words below, and stays so after a store.
-use Prim.Native.Nat.{ℕ, _+_, _*_, _%_, _^_, _≤_, _<_}
-use mathlib.Core.Path.{_≡_, refl, sym, ap, _∙_}
+use Prim.Native.Nat.{ℕ, _+_, _%_, _^_, _≤_, _<_}
+use mathlib.Core.Path.{_≡_, refl, ap, _∙_}
 use mathlib.Core.Bool.{Bool, true, false}
 use mathlib.Core.List.{List}
 use native.Mathlib.Omega.{arith}
 use lib.Dec.{leb, eqb}
 use lib.ListN.{length, getD}
 use borrow.Author.Tests.{leb-true, eqb-true, eqb-false, le-leb, eq-eqb}
-use Rattle.word.specs.Choice.{pick, both}
+use Rattle.word.specs.Choice.{pick}
 use Rattle.processor.specs.declared.Width.the-variants.{Word}
 use Rattle.processor.specs.Instructions.{encodeOf}
 use Rattle.processor.specs.Machine.{wordAt, memory-bytes, data-start}

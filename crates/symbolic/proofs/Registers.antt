@@ -1,11 +1,11 @@
 -- The banks are the list of registers: what is read of one is read of the other, and stays so after a write.
-use Prim.Native.Nat.{ℕ, suc, _+_, _^_, _<_, _≤_}
+use Prim.Native.Nat.{ℕ, _+_, _^_, _<_}
 use mathlib.Core.Path.{_≡_, refl, sym, ap, _∙_}
 use mathlib.Core.Bool.{Bool, true, false}
 use mathlib.Core.List.{List}
 use native.Mathlib.Omega.{arith}
 use native.Mathlib.Decide.{ℕ-discrete}
-use lib.Dec.{ltb, eqb, T}
+use lib.Dec.{ltb, eqb}
 use lib.ListN as L
 use lib.ListN.{length, getD, length-set}
 use lib.Seq.{getD-set-other, getD-set-same}

@@ -1,5 +1,5 @@
 -- Runs of the symbolic processor by itself: one after the other, after a stop, at a known instruction; the log only grows.
-use Prim.Native.Nat.{ℕ, zero, suc, _+_, _-_, _≤_, _<_}
+use Prim.Native.Nat.{ℕ, zero, suc, _+_, _-_, _≤_}
 use mathlib.Core.Path.{_≡_, refl, sym, ap, _∙_, subst}
 use mathlib.Core.Bool.{Bool, true, false}
 use mathlib.Core.List.{List, [], _∷_, _++_, append-nil, append-assoc}
@@ -13,7 +13,7 @@ use Rattle.processor.specs.declared.Width.the-variants.{Word}
 use Rattle.processor.specs.declared.Status.{Status}
 use Rattle.processor.specs.declared.Status.the-variants.{Going, Exit, Trap, Fault, Limit}
 use Rattle.processor.specs.Execute.{reaches}
-use Rattle.symbolic.specs.Symbolic.{Instruction, lui, opi, shift, mv, op, lw, sw, branch, branchBack, jump, jumpBack, call, ret, ecall, bad, State, value, ra, request, answer, pos, positionOf, quit, ecallOf, exec1, stepBy, step, run, countBy, count}
+use Rattle.symbolic.specs.Symbolic.{Instruction, lui, opi, shift, mv, op, lw, sw, branch, branchBack, jump, jumpBack, call, ret, ecall, bad, State, value, ra, request, answer, pos, positionOf, ecallOf, exec1, stepBy, step, run, countBy, count}
 
 -- a state that doesn't go on
 abbrev pub Stopped : Status → Type 0

@@ -1,6 +1,6 @@
 -- Document 03's start is the symbolic start: the code's words from 0x1000 on, the arrays from 0x100000 on, all else 0.
-use Prim.Native.Nat.{ℕ, zero, suc, _+_, _-_, _*_, _/_, _%_, _^_, _≤_, _<_}
-use mathlib.Core.Path.{_≡_, refl, sym, ap, _∙_, subst}
+use Prim.Native.Nat.{ℕ, zero, suc, _+_, _-_, _*_, _/_, _^_, _≤_, _<_}
+use mathlib.Core.Path.{_≡_, refl, sym, ap, _∙_}
 use mathlib.Core.Bool.{Bool, true, false}
 use mathlib.Core.List.{List, [], _∷_}
 use native.Mathlib.Nat.{zero-add, add-zero}
@@ -8,18 +8,18 @@ use native.Mathlib.Omega.{arith}
 use lib.Dec.{eqb}
 use lib.ListN.{length, getD}
 use Rattle.word.specs.Choice.{pick}
-use Rattle.word.specs.Bytes.{wordOf, bytesOf, bytesOfWords}
+use Rattle.word.specs.Bytes.{bytesOf, bytesOfWords}
 use Rattle.word.proofs.WordBytes.{wordOf-bytes, bytesOfWords-at, bytesOfWords-length}
 use Rattle.processor.specs.declared.Width.the-variants.{Word}
 use Rattle.processor.specs.Instructions.{encodeOf}
 use Rattle.processor.specs.Machine.{register-count, memory-bytes, code-start, data-start, register, wordAt, zeros, placed, startMemory, startOf}
 use Rattle.processor.specs.Execute.{reaches}
 use Rattle.processor.proofs.Round.{encode-small}
-use Rattle.symbolic.specs.Symbolic.{Reg, x0, reg, number, Instruction, bad, Registers, get, pos, initial}
+use Rattle.symbolic.specs.Symbolic.{Reg, x0, reg, number, Instruction, bad, get, pos, initial}
 use Rattle.symbolic.specs.Real.{real, wordsFrom, imageOf}
 use Rattle.symbolic.specs.Fine.{Valid, most-instructions}
 use Rattle.symbolic.proofs.Registers.{SameRegisters}
-use Rattle.symbolic.proofs.Memory.{SameMemory, reach-facts}
+use Rattle.symbolic.proofs.Memory.{reach-facts}
 use Rattle.symbolic.proofs.Words.{four}
 use Rattle.symbolic.proofs.Match.{Match}
 use Rattle.symbolic.proofs.Placed.{zeros-length, zeros-at, placed-length, placed-before, placed-in, placed-after, placed-clear}

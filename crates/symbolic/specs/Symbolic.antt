@@ -1,7 +1,6 @@
 -- The symbolic processor: one instruction of it is one instruction of document 03. Registers stand in banks by their role, memory is a map from addresses
 -- of words to words, and pc counts instructions. It faults wherever the real processor does, and more often: what is followed are the runs that don't fault.
 use Prim.Native.Nat.{ℕ, zero, suc, _+_, _-_, _*_, _/_}
-use mathlib.Core.Bool.{Bool, true, false}
 use mathlib.Core.List.{List, [], _∷_, _++_}
 use lib.Dec.{ltb, eqb}
 use lib.ListN.{length, getD}
