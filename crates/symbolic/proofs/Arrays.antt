@@ -9,7 +9,7 @@ use Rattle.word.specs.Bytes.{wordsOfBytes}
 use Rattle.word.proofs.WordBytes.{wordsOfBytes-length, wordsOfBytes-at}
 use Rattle.processor.specs.Machine.{Machine, memory-bytes, data-start, wordAt}
 use Rattle.processor.specs.Image.{arraysOf}
-use Rattle.symbolic.specs.Symbolic.{Instruction, State}
+use Rattle.symbolic.specs.Symbolic.{Instruction, State, initial}
 use Rattle.symbolic.proofs.Words.{four}
 use Rattle.symbolic.proofs.Memory.{in-reach}
 use Rattle.symbolic.proofs.Match.{Match}
@@ -17,6 +17,12 @@ use Rattle.symbolic.proofs.Match.{Match}
 -- memory that holds these words from 0x100000 on
 pub record Holds (memory : ℕ → ℕ) (words : List ℕ) : Type 0 where
   pub cell : (i : ℕ) → i < length words → memory (data-start + 4 * i) ≡ getD words i 0
+
+pub initial-holds : (arrays : List ℕ) → Holds (initial arrays .memory) arrays
+initial-holds arrays = record { cell = λ i lt. ap (λ (k : ℕ). getD arrays k 0) (index i) }
+  where
+    index : (i : ℕ) → (data-start + 4 * i - data-start) / 4 ≡ i
+    index i = omega arith
 
 module _ {code : List Instruction} {σ : State} {m : Machine} (c : Match code σ m) (words : List ℕ) (few : 4 * length words ≤ memory-bytes - data-start) (h : Holds (σ .memory) words) where
   abbrev block : List ℕ

@@ -9,7 +9,7 @@ use lib.ListN.{length, getD}
 use borrow.Author.Tests.{le-leb, eq-eqb}
 use Rattle.word.specs.Bytes.{bytesOfWords}
 use Rattle.processor.specs.declared.Status.{Status}
-use Rattle.processor.specs.declared.Status.the-variants.{Going, Exit, Trap, Fault, Limit}
+use Rattle.processor.specs.declared.Status.the-variants.{Fault}
 use Rattle.processor.specs.Machine.{memory-bytes, data-start, startOf}
 use Rattle.processor.specs.Run.{Run}
 use Rattle.processor.specs.Image.{longest-code, fits, runImage, arraysOf}
@@ -18,38 +18,10 @@ use Rattle.symbolic.specs.Real.{imageOf}
 use Rattle.symbolic.specs.Fine.{AllFine, most-instructions}
 use Rattle.symbolic.proofs.Instructions.{NoFault}
 use Rattle.symbolic.proofs.Runs.{Stopped, later, count-later}
-use Rattle.symbolic.proofs.Lock.{shown, Ran, run-lock}
+use Rattle.symbolic.proofs.Shown.{shown, shown-stopped, shown-no-fault}
+use Rattle.symbolic.proofs.Lock.{Ran, run-lock}
 use Rattle.symbolic.proofs.Start.{image-length, starts}
 use Rattle.symbolic.proofs.Arrays.{Holds, arrays-are}
-
--- what a stop that is shown says of the symbolic processor
-pub shown-exit : (s : Status) → shown s ≡ Exit → s ≡ Exit
-shown-exit Going e = cc
-shown-exit Exit e = e
-shown-exit (Trap t) e = e
-shown-exit (Fault n) e = e
-shown-exit Limit e = e
-
-pub shown-trap : (s : Status) (t : ℕ) → shown s ≡ Trap t → s ≡ Trap t
-shown-trap Going t e = cc
-shown-trap Exit t e = e
-shown-trap (Trap u) t e = e
-shown-trap (Fault n) t e = e
-shown-trap Limit t e = e
-
-shown-stopped : (s : Status) → Stopped s → shown s ≡ s
-shown-stopped Going h = absurd h
-shown-stopped Exit h = refl
-shown-stopped (Trap t) h = refl
-shown-stopped (Fault n) h = refl
-shown-stopped Limit h = refl
-
-no-fault-shown : (s : Status) (f : ℕ) → NoFault s → shown s ≡ Fault f → ⊥
-no-fault-shown Going f h e = let z : _≡_ {A = ℕ} 0 1 = cc in omega arith
-no-fault-shown Exit f h e = let z : _≡_ {A = ℕ} 0 1 = cc in omega arith
-no-fault-shown (Trap t) f h e = let z : _≡_ {A = ℕ} 0 1 = cc in omega arith
-no-fault-shown (Fault n) f h e = h
-no-fault-shown Limit f h e = let z : _≡_ {A = ℕ} 0 1 = cc in omega arith
 
 -- The image of code that is short enough is one that document 03 §5 lets run.
 pub runnable : (code : List Instruction) → length code ≤ most-instructions → fits longest-code (length (imageOf code)) ≡ true
@@ -107,4 +79,4 @@ module _ (room : ℕ) (code : List Instruction) (arrays : List ℕ) (L : Loads c
 
   -- The real machine doesn't fault where the symbolic one doesn't.
   pub never-faults : (n : ℕ) → NoFault (after n .status) → (f : ℕ) → real-run n .machine .status ≡ Fault f → ⊥
-  never-faults n safe f e = no-fault-shown (after n .status) f safe (sym (follows n safe .stops) ∙ e)
+  never-faults n safe f e = shown-no-fault (after n .status) f safe (sym (follows n safe .stops) ∙ e)

@@ -6,9 +6,11 @@ pub mod Operations
 pub mod Immediates
 pub mod Distances
 pub mod Encodable
+pub mod AllFine
 pub mod Match
 pub mod Instructions
 pub mod Runs
+pub mod Shown
 pub mod Lock
 pub mod Placed
 pub mod Steps

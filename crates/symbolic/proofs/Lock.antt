@@ -2,44 +2,25 @@
 use Prim.Native.Nat.{ℕ, zero, suc, _+_, _*_, _%_, _≤_, _<_}
 use mathlib.Core.Path.{_≡_, refl, sym, ap, _∙_, subst}
 use mathlib.Core.Bool.{true, false}
-use mathlib.Core.List.{List, [], _∷_}
+use mathlib.Core.List.{List}
 use native.Mathlib.Omega.{arith}
 use native.Mathlib.Decide.{decLt}
 use lib.ListN.{length, getD, List·getD-eq-default}
 use borrow.Author.Tests.{lt-ltb, le-leb, eq-eqb}
-use Rattle.processor.specs.declared.Instr.{Instr}
 use Rattle.processor.specs.declared.Status.{Status}
 use Rattle.processor.specs.declared.Status.the-variants.{Going, Exit, Trap, Fault, Limit}
-use Rattle.processor.specs.Instructions.{encodeOf, WellFormed}
 use Rattle.processor.specs.Machine.{Machine, wordAt, code-start}
-use Rattle.processor.specs.Execute.{execOf}
 use Rattle.processor.specs.Run.{inCode, stepOf, isGoing, counted, Run, runOf}
-use Rattle.processor.proofs.Round.{decode-encode}
+use Rattle.processor.proofs.Fetch.{step-at}
 use Rattle.symbolic.specs.Symbolic.{Instruction, bad, State, pos, exec1, stepBy, step, run, countBy, count}
 use Rattle.symbolic.specs.Real.{real}
-use Rattle.symbolic.specs.Fine.{Fine, AllFine, most-instructions}
+use Rattle.symbolic.specs.Fine.{AllFine, most-instructions}
+use Rattle.symbolic.proofs.AllFine.{fine-at}
+use Rattle.symbolic.proofs.Shown.{shown}
 use Rattle.symbolic.proofs.Encodable.{encodable}
 use Rattle.symbolic.proofs.Match.{Match, Alike}
 use Rattle.symbolic.proofs.Instructions.{NoFault, executes}
 use Rattle.symbolic.proofs.Runs.{Stopped, rests}
-
--- a step at a word that an instruction was encoded to carries that instruction out
-step-of : (size room : ℕ) (m : Machine) (i : Instr) → WellFormed i → inCode size (m .pc) ≡ true → wordAt (m .memory) (m .pc) ≡ encodeOf i → stepOf size room m ≡ execOf room i m
-unfolding stepOf
-step-of size room m i formed on e = rw (on, e, decode-encode i formed)
-
--- how a run with a limit shows the state that the symbolic processor is in
-abbrev pub shown : Status → Status
-shown Going = Limit
-shown Exit = Exit
-shown (Trap t) = Trap t
-shown (Fault n) = Fault n
-shown Limit = Limit
-
-fine-at : (code : List Instruction) (k : ℕ) → AllFine code → k < length code → Fine (getD code k bad)
-fine-at [] k f h = absurd (omega arith)
-fine-at (i ∷ rest) zero f h = f .0
-fine-at (i ∷ rest) (suc k) f h = fine-at rest k (f .1) (omega arith)
 
 module _ (room : ℕ) (code : List Instruction) (short : length code ≤ most-instructions) (fine : AllFine code) where
   -- the size of the code, in bytes
@@ -60,7 +41,7 @@ module _ (room : ℕ) (code : List Instruction) (short : length code ≤ most-in
       go (yes h) safe =
           let f = fine-at code (σ .pc) fine h in
           subst (λ (n : Machine). Alike code (exec1 room (getD code (σ .pc) bad) σ) n)
-          (sym (step-of size room m (real (σ .pc) (getD code (σ .pc) bad)) (encodable (σ .pc) (getD code (σ .pc) bad) (omega arith) f)
+          (sym (step-at size room m (real (σ .pc) (getD code (σ .pc) bad)) (encodable (σ .pc) (getD code (σ .pc) bad) (omega arith) f)
           (ap (λ (p : ℕ). inCode size p) (c .pc) ∙ in-code (σ .pc) h) (ap (λ (p : ℕ). wordAt (m .memory) p) (c .pc) ∙ c .memory .code-in (σ .pc) h)))
           (executes room short σ m (omega arith) c (getD code (σ .pc) bad) f safe)
       go (no h) safe = absurd (subst (λ (i : Instruction). NoFault (exec1 room i σ .status)) (List·getD-eq-default code bad (omega arith)) safe)

@@ -14,12 +14,12 @@ use Rattle.processor.specs.declared.Width.the-variants.{Word}
 use Rattle.processor.specs.Instructions.{encodeOf}
 use Rattle.processor.specs.Machine.{register-count, memory-bytes, code-start, data-start, register, wordAt, zeros, placed, startMemory, startOf}
 use Rattle.processor.specs.Execute.{reaches}
+use Rattle.processor.proofs.Kept.{reached}
 use Rattle.processor.proofs.Round.{encode-small}
 use Rattle.symbolic.specs.Symbolic.{Reg, x0, reg, number, Instruction, bad, get, pos, initial}
 use Rattle.symbolic.specs.Real.{real, wordsFrom, imageOf}
 use Rattle.symbolic.specs.Fine.{Valid, most-instructions}
 use Rattle.symbolic.proofs.Registers.{SameRegisters}
-use Rattle.symbolic.proofs.Memory.{reach-facts}
 use Rattle.symbolic.proofs.Words.{four}
 use Rattle.symbolic.proofs.Match.{Match}
 use Rattle.symbolic.proofs.Placed.{zeros-length, zeros-at, placed-length, placed-before, placed-in, placed-after, placed-clear}
@@ -89,7 +89,7 @@ module _ (code : List Instruction) (arrays : List ℕ) (short : length code ≤ 
 
   array-word : (a : ℕ) → reaches Word a ≡ true → wordAt whole a ≡ getD arrays ((a - data-start) / 4) 0
   array-word a h =
-      let f = reach-facts a h in
+      let f = reached Word a h in
       let e : a ≡ data-start + 4 * ((a - data-start) / 4) = omega arith in
       ap (λ (i : ℕ). wordAt whole i) e
       ∙ word-in arrays whole data-start ((a - data-start) / 4) (words _) (λ k lt. placed-clear coded data-start (bytesOfWords arrays) (rw coded-length (omega arith)) clear (4 * ((a - data-start) / 4) + k))

@@ -42,11 +42,6 @@ module _ (m : List ℕ) (a w x y z : ℕ) where
       (getD-set-other m3 (a + 3) (a + 2) z 0 (λ e. omega arith) ∙ getD-set-same m2 (a + 2) y 0 (simp length-set (omega arith)))
       (getD-set-same m3 (a + 3) z 0 (simp length-set (omega arith)))
 
--- a store keeps the length
-pub write-length : (m : List ℕ) (a v : ℕ) → length (writeAt Word m a v) ≡ length m
-unfolding writeAt
-write-length m a v = simp length-set
-
 -- a byte that a store doesn't reach
 byte-other : (m : List ℕ) (a v j : ℕ) → (j ≡ a → ⊥) → (j ≡ a + 1 → ⊥) → (j ≡ a + 2 → ⊥) → (j ≡ a + 3 → ⊥) → getD (writeAt Word m a v) j 0 ≡ getD m j 0
 unfolding writeAt
