@@ -132,7 +132,7 @@ set (reg b n) v x = λ c j. pick (both (eqb (first c) (first b)) (eqb j n)) v (x
 abbrev pub updated : {A : Type 0} → (ℕ → A) → ℕ → A → (ℕ → A)
 updated f k v = λ j. pick (eqb j k) v (f j)
 
--- The address of the instruction at position k, and the position of an address. (T10 changes these two and nothing else.)
+-- The address of the instruction at position k, and the position of an address. (T10 changes these two.)
 abbrev pub pos : ℕ → ℕ
 pos k = code-start + 4 * k
 
