@@ -216,7 +216,7 @@ module _ (w : ℕ) (fits : w < 2 ^ 32) where
   jalr-row : 0x67 ≡ opcode w → Known (decodeJalr w) → Says w (decodeJalr w)
   unfolding decodeJalr encodeOf WellFormed
   jalr-row o h =
-      by-test w (eqb (funct3 w) 0) _ Unknown
+      by-test w _ _ Unknown
       (λ t k. record { word = i-word 0 0x67 (sym (eqb-true _ _ t)) o; fine = (omega arith, omega arith, i-is .fine) })
       (not-known w) h
 
@@ -265,15 +265,15 @@ module _ (w : ℕ) (fits : w < 2 ^ 32) where
   fence-row : 0x0f ≡ opcode w → Known (decodeFence w) → Says w (decodeFence w)
   unfolding decodeFence encodeOf WellFormed
   fence-row o h =
-      by-test w (eqb (funct3 w) 0) _ Unknown
+      by-test w _ _ Unknown
       (λ t k. record { word = i-word 0 0x0f (sym (eqb-true _ _ t)) o; fine = (omega arith, omega arith, i-is .fine) })
       (not-known w) h
 
   system-row : Known (decodeSystem w) → Says w (decodeSystem w)
   unfolding decodeSystem encodeOf WellFormed
   system-row h =
-      by-test w (eqb w 0x00000073) Ecall _ (λ t k. record { word = sym (eqb-true _ _ t); fine = tt })
-      (by-test w (eqb w 0x00100073) Ebreak Unknown (λ t k. record { word = sym (eqb-true _ _ t); fine = tt }) (not-known w)) h
+      by-test w _ Ecall _ (λ t k. record { word = sym (eqb-true _ _ t); fine = tt })
+      (by-test w _ Ebreak Unknown (λ t k. record { word = sym (eqb-true _ _ t); fine = tt }) (not-known w)) h
 
   by-opcode : (o : ℕ) (i j : Instr) → (o ≡ opcode w → Known i → Says w i) → (Known j → Says w j) → Known (pick (eqb (opcode w) o) i j) → Says w (pick (eqb (opcode w) o) i j)
   by-opcode o i j f g h = by-test w (eqb (opcode w) o) i j (λ e. f (sym (eqb-true _ _ e))) g h
