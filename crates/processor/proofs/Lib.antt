@@ -5,6 +5,8 @@ pub mod Round
 pub mod Memory
 pub mod Ways
 pub mod Kept
+pub mod Sized
 pub mod Onward
 pub mod Fetch
 pub mod Start
+pub mod Laws

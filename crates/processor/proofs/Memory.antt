@@ -1,13 +1,13 @@
 -- What is read after a write: of a register, of a byte, of a word of memory.
-use Prim.Native.Nat.{ℕ, zero, suc, _+_, _*_, _/_, _%_, _^_, _<_, _≤_}
-use mathlib.Core.Path.{_≡_, refl, sym, _∙_, ap}
+use Prim.Native.Nat.{ℕ, zero, suc, _+_, _^_, _<_, _≤_}
+use mathlib.Core.Path.{_≡_, refl, _∙_, ap}
 use mathlib.Core.List.{List}
 use native.Mathlib.Omega.{arith}
 use native.Mathlib.Nat.{add-zero}
 use lib.ListN.{length, getD, set, length-set}
 use lib.Seq.{getD-set-other, getD-set-same}
 use borrow.Author.Tests.{ne-eqb}
-use Rattle.word.specs.Bytes.{wordOf, byte₀, byte₁, byte₂, byte₃}
+use Rattle.word.specs.Bytes.{byte₀, byte₁, byte₂, byte₃}
 use Rattle.word.proofs.WordBytes.{wordOf-bytes}
 use Rattle.processor.specs.declared.Width.{Width}
 use Rattle.processor.specs.declared.Width.the-variants.{Byte, Half, Word, ByteU, HalfU}

@@ -1,15 +1,17 @@
 -- The machine at the start: how long its memory is, and what lies there; and so what every machine that it becomes has as code.
 use Prim.Native.Nat.{ℕ, zero, suc, _+_, _-_, _*_, _<_, _≤_}
 use mathlib.Core.Path.{_≡_, refl, sym, _∙_, ap, subst}
-use mathlib.Core.List.{List, [], _∷_, _++_}
+use mathlib.Core.List.{List, _++_}
 use native.Mathlib.Omega.{arith}
-use lib.ListN.{length, getD, take, drop, replicate, length-append, length-drop, length-replicate, List·getD-append}
+use lib.ListN.{length, getD, take, drop, length-append, length-drop, length-replicate, List·getD-append}
 use lib.Seq.{length-take-le, getD-take, getD-drop, getD-append-add}
 use Rattle.word.specs.Bytes.{wordOf, wordsOfBytes}
+use Rattle.word.proofs.Cases.{by-order}
 use Rattle.word.proofs.WordBytes.{wordsOfBytes-at}
-use Rattle.processor.specs.Machine.{Machine, register, byteAt, wordAt, memory-bytes, code-start, data-start, register-count, zeros, placed, startMemory, startOf}
+use Rattle.processor.specs.Machine.{Machine, byteAt, wordAt, memory-bytes, code-start, data-start, register-count, zeros, placed, startMemory, startOf}
 use Rattle.processor.specs.Image.{longest-code, longest-input}
 use Rattle.processor.proofs.Kept.{Keeps, word-kept}
+use Rattle.processor.proofs.Sized.{Bytes, Sized}
 
 zeros-length : (n : ℕ) → length (zeros n) ≡ n
 unfolding zeros
@@ -60,6 +62,14 @@ module _ (memory : List ℕ) (at : ℕ) (bytes : List ℕ) (room : at + length b
       ∙ getD-drop (at + length bytes) memory (j - (at + length bytes)) 0
       ∙ ap (λ (n : ℕ). getD memory n 0) (sym e)
 
+  placed-bytes : Bytes memory → Bytes bytes → Bytes (placed memory at bytes)
+  placed-bytes M B = record { below = λ j. by-order j at (λ l. rw (placed-before j l) (M .below j)) (λ l. by-order j (at + length bytes) (within j l) (λ k. rw (placed-after j k) (M .below j))) }
+    where
+      within : (j : ℕ) → at ≤ j → j < at + length bytes → byteAt (placed memory at bytes) j < 256
+      within j l k =
+          let e : j ≡ at + (j - at) = omega arith in
+          subst (λ (n : ℕ). n < 256) (sym (ap (byteAt (placed memory at bytes)) e ∙ placed-within (j - at) (omega arith))) (B .below (j - at))
+
 module _ (code input : List ℕ) (short : length code ≤ longest-code) (small : length input ≤ longest-input) where
   code-room : code-start + length code ≤ length (zeros memory-bytes)
   code-room = rw (zeros-length memory-bytes) (omega arith)
@@ -90,6 +100,18 @@ module _ (code input : List ℕ) (short : length code ≤ longest-code) (small :
   start-rest j h =
       placed-after (placed (zeros memory-bytes) code-start code) data-start input input-room j h
       ∙ placed-after (zeros memory-bytes) code-start code code-room j (omega arith) ∙ zeros-at memory-bytes j
+
+  -- of code and input that are bytes, the machine is one of words and bytes
+  pub start-sized : Bytes code → Bytes input → Sized (startOf code input)
+  unfolding startOf startMemory
+  start-sized C I = record {
+    registers = λ r. rw (zeros-at register-count r) (omega arith);
+    pc = omega arith;
+    bytes = placed-bytes (placed (zeros memory-bytes) code-start code) data-start input input-room (placed-bytes (zeros memory-bytes) code-start code code-room zeros-bytes C) I;
+  }
+    where
+      zeros-bytes : Bytes (zeros memory-bytes)
+      zeros-bytes = record { below = λ j. rw (zeros-at memory-bytes j) (omega arith) }
 
   -- the k-th word of the code
   pub start-word : (k : ℕ) → 4 * k + 3 < length code → wordAt (startMemory code input) (code-start + 4 * k) ≡ getD (wordsOfBytes code) k 0
