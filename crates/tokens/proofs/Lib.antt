@@ -1,0 +1,9 @@
+pub mod Lists
+pub mod Tables
+pub mod Steps
+pub mod Sound
+pub mod Complete
+pub mod Scan
+pub mod Words
+pub mod Looks
+pub mod Going
