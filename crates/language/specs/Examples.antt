@@ -1,4 +1,4 @@
--- Document 01 §6 and §7: its vectors, computed. Trees are written out here, with 0 for every place; from the texts themselves they are run by programs.
+-- Document 01 §6 and §7: its vectors, computed. Trees are written out here, most of them with 0 for every place.
 use mathlib.Core.Bool.{Bool, true, false}
 use mathlib.Core.List.{List, [], _∷_, _++_}
 use mathlib.Core.Option.{Option, none, some}
@@ -17,33 +17,33 @@ use Rattle.language.specs.Meaning.{World, Stop, trapped, outOfFuel, Outc
 -- Writing trees
 
 infix 30 _⟨_⟩_
-abbrev var : String → Expr
+abbrev pub var : String → Expr
 var x = name 0 (bytes x)
 
-abbrev _⟨_⟩_ : Expr → Strict → Expr → Expr
+abbrev pub _⟨_⟩_ : Expr → Strict → Expr → Expr
 _⟨_⟩_ x o y = binary 0 (strict o) x y
 
-abbrev minus : ℕ → Expr
+abbrev pub minus : ℕ → Expr
 minus n = unary 0 negate (number n)
 
-abbrev body : List Stmt → Block
+abbrev pub body : List Stmt → Block
 body [] = end
 body (s ∷ ss) = then s (body ss)
 
-abbrev one : Expr → T.Args
+abbrev pub one : Expr → T.Args
 one e = T.more e T.none
 
-abbrev two : Expr → Expr → T.Args
+abbrev pub two : Expr → Expr → T.Args
 two x y = T.more x (T.more y T.none)
 
-abbrev param : String → Param
+abbrev pub param : String → Param
 param x = record { place = 0; name = bytes x; type = int }
 
-abbrev emits : List Expr → List Stmt
+abbrev pub emits : List Expr → List Stmt
 emits [] = []
 emits (e ∷ es) = emit 0 e ∷ emits es
 
-abbrev main : List Stmt → Item
+abbrev pub main : List Stmt → Item
 main ss = function 0 main-name [] none (body ss)
 
 -- Running them: the outcome, the log, the arrays, and how much of 1,000 units of fuel was used, with room for 10 in the log
@@ -54,14 +54,14 @@ pub record Ran : Type 0 where
   pub arrays : List ℕ
   pub used : ℕ
 
-abbrev ran : Run → Ran
+abbrev pub ran : Run → Ran
 ran r = record { outcome = r .outcome; log = r .world .log; arrays = r .world .arrays; used = 1000 - r .world .fuel }
 
-abbrev runs : Ruled Program → List ℕ → Option Ran
+abbrev pub runs : Ruled Program → List ℕ → Option Ran
 runs (breaks p) xs = none
 runs (keeps p) xs = some (ran (runOf p xs 1000 10))
 
-abbrev ends : Outcome → List ℕ → List ℕ → ℕ → Option Ran
+abbrev pub ends : Outcome → List ℕ → List ℕ → ℕ → Option Ran
 ends o l xs u = some (record { outcome = o; log = l; arrays = xs; used = u })
 
 -- Text G: "finishes with log 6, 6, 5; fuel 97"
@@ -183,7 +183,7 @@ pub record Vectors : Type 0 where
       (array 0 (bytes "a") 3
       ∷ main (store 0 (bytes "a") (number 2) (number 5) ∷ emits (element 0 (bytes "a") (number 2) ∷ element 0 (bytes "a") (number 3) ∷ []))
       ∷ []) 0) (0 ∷ 0 ∷ 0 ∷ []) ≡ ends (stopped (trapped 2)) (5 ∷ []) (0 ∷ 0 ∷ 5 ∷ []) 9
-  -- "evaluating the right side first" would log 3, 2, 1, 7
+  -- "Evaluating the right side first" would log 3, 2, 1, 7
   pub row-order : runs (elaborate (echo ∷ main (emit 0 (f 1 ⟨ add ⟩ (f 2 ⟨ mul ⟩ f 3)) ∷ []) ∷ []) 0) [] ≡ ends finished (1 ∷ 2 ∷ 3 ∷ 7 ∷ []) [] 21
   -- "testing the index before the value is computed" would trap 2
   pub row-index-last : runs (elaborate
