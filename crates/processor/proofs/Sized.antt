@@ -7,7 +7,7 @@ use native.Mathlib.Omega.{arith}
 use lib.Dec.{eqb, ltb}
 use lib.ListN.{length, getD, set}
 use Rattle.word.specs.Choice.{pick}
-use Rattle.word.specs.Word.{addW, bitOf}
+use Rattle.word.specs.Word.{bitOf}
 use Rattle.word.proofs.Range as Range
 use Rattle.word.proofs.WordBytes.{wordOf-lt}
 use Rattle.processor.specs.declared.Alu.{Alu}
@@ -31,6 +31,9 @@ bit-lt b = let h = Range.bitOf-lt b in omega arith
 pick-lt : (x : Bool) (a b : ℕ) → a < 2 ^ 32 → b < 2 ^ 32 → pick x a b < 2 ^ 32
 pick-lt true a b h k = h
 pick-lt false a b h k = k
+
+even-lt : {x : ℕ} → x < 2 ^ 32 → x / 2 * 2 < 2 ^ 32
+even-lt h = omega arith
 
 pub alu-lt : (o : Alu) (a b : ℕ) → a < 2 ^ 32 → b < 2 ^ 32 → aluOf o a b < 2 ^ 32
 unfolding aluOf
@@ -56,17 +59,17 @@ alu-lt Remu a b h k = pick-lt (eqb b 0) _ _ h (Range.remU-lt a b h)
 -- An instruction whose immediate or amount is a word, as every decoded one's is.
 
 abbrev Small : Instr → Type 0
-Small (Lui rd imm) = imm < 2 ^ 32
-Small (Auipc rd imm) = Unit {0}
-Small (Jal rd imm) = Unit {0}
-Small (Jalr rd rs1 imm) = Unit {0}
-Small (Branch c rs1 rs2 imm) = Unit {0}
-Small (Load s rd rs1 imm) = Unit {0}
-Small (Store s rs1 rs2 imm) = Unit {0}
-Small (OpImm o rd rs1 imm) = imm < 2 ^ 32
-Small (Shift o rd rs1 amount) = amount < 2 ^ 32
-Small (Op o rd rs1 rs2) = Unit {0}
-Small (Fence rd rs1 imm) = Unit {0}
+Small (Lui d imm) = imm < 2 ^ 32
+Small (Auipc d imm) = Unit {0}
+Small (Jal d imm) = Unit {0}
+Small (Jalr d a imm) = Unit {0}
+Small (Branch c a b imm) = Unit {0}
+Small (Load s d a imm) = Unit {0}
+Small (Store s a b imm) = Unit {0}
+Small (OpImm o d a imm) = imm < 2 ^ 32
+Small (Shift o d a amount) = amount < 2 ^ 32
+Small (Op o d a b) = Unit {0}
+Small (Fence d a imm) = Unit {0}
 Small Ecall = Unit {0}
 Small Ebreak = Unit {0}
 Small Unknown = Unit {0}
@@ -165,21 +168,21 @@ module _ (m : Machine) (S : Sized m) where
   halt-sized : (s : Status) → Sized (halt m s)
   halt-sized s = record { registers = S .registers; pc = S .pc; bytes = S .bytes }
 
-  wrote-sized : (rd v p : ℕ) → v < 2 ^ 32 → p < 2 ^ 32 → Sized (wrote m rd v p)
+  wrote-sized : (d v p : ℕ) → v < 2 ^ 32 → p < 2 ^ 32 → Sized (wrote m d v p)
   unfolding setRegister
-  wrote-sized rd v p h k = record { registers = go (eqb rd 0); pc = k; bytes = S .bytes }
+  wrote-sized d v p h k = record { registers = go (eqb d 0); pc = k; bytes = S .bytes }
     where
-      go : (x : Bool) (r : ℕ) → getD (pick x (m .registers) (set (m .registers) rd v)) r 0 < 2 ^ 32
+      go : (x : Bool) (r : ℕ) → getD (pick x (m .registers) (set (m .registers) d v)) r 0 < 2 ^ 32
       go true r = S .registers r
-      go false r = set-lt (2 ^ 32) (m .registers) rd v (S .registers) h r
+      go false r = set-lt (2 ^ 32) (m .registers) d v (S .registers) h r
 
   by-choice : (x : Bool) (a b : Machine) → Sized a → Sized b → Sized (pick x a b)
   by-choice true a b h k = h
   by-choice false a b h k = k
 
-  load-sized : (s : Width) (rd at : ℕ) → Sized (loadOf s rd at m)
+  load-sized : (s : Width) (d at : ℕ) → Sized (loadOf s d at m)
   unfolding loadOf
-  load-sized s rd at = by-choice (reaches s at) _ _ (wrote-sized rd _ _ (read-lt s (m .memory) at (S .bytes)) next-lt) (halt-sized (Fault 3))
+  load-sized s d at = by-choice (reaches s at) _ _ (wrote-sized d _ _ (read-lt s (m .memory) at (S .bytes)) next-lt) (halt-sized (Fault 3))
 
   store-sized : (s : Width) (at v : ℕ) → Sized (storeOf s at v m)
   unfolding storeOf
@@ -197,17 +200,17 @@ module _ (m : Machine) (S : Sized m) where
 
   exec-sized : (room : ℕ) (i : Instr) → Small i → Sized (execOf room i m)
   unfolding execOf
-  exec-sized room (Lui rd imm) h = wrote-sized rd imm _ h next-lt
-  exec-sized room (Auipc rd imm) h = wrote-sized rd _ _ (Range.addW-lt (m .pc) imm) next-lt
-  exec-sized room (Jal rd imm) h = wrote-sized rd _ _ next-lt (Range.addW-lt (m .pc) imm)
-  exec-sized room (Jalr rd rs1 imm) h = wrote-sized rd _ _ next-lt (let k = Range.addW-lt (reg m rs1) imm in omega arith)
-  exec-sized room (Branch c rs1 rs2 imm) h = goto-sized _ (pick-lt (condOf c (reg m rs1) (reg m rs2)) _ _ (Range.addW-lt (m .pc) imm) next-lt)
-  exec-sized room (Load s rd rs1 imm) h = load-sized s rd (addW (reg m rs1) imm)
-  exec-sized room (Store s rs1 rs2 imm) h = store-sized s (addW (reg m rs1) imm) (reg m rs2)
-  exec-sized room (OpImm o rd rs1 imm) h = wrote-sized rd _ _ (alu-lt o (reg m rs1) imm (reg-lt rs1) h) next-lt
-  exec-sized room (Shift o rd rs1 amount) h = wrote-sized rd _ _ (alu-lt o (reg m rs1) amount (reg-lt rs1) h) next-lt
-  exec-sized room (Op o rd rs1 rs2) h = wrote-sized rd _ _ (alu-lt o (reg m rs1) (reg m rs2) (reg-lt rs1) (reg-lt rs2)) next-lt
-  exec-sized room (Fence rd rs1 imm) h = goto-sized _ next-lt
+  exec-sized room (Lui d imm) h = wrote-sized d imm _ h next-lt
+  exec-sized room (Auipc d imm) h = wrote-sized d _ _ (Range.addW-lt _ _) next-lt
+  exec-sized room (Jal d imm) h = wrote-sized d _ _ next-lt (Range.addW-lt _ _)
+  exec-sized room (Jalr d a imm) h = wrote-sized d _ _ next-lt (even-lt (Range.addW-lt _ _))
+  exec-sized room (Branch c a b imm) h = goto-sized _ (pick-lt (condOf c (reg m a) (reg m b)) _ _ (Range.addW-lt _ _) next-lt)
+  exec-sized room (Load s d a imm) h = load-sized s d _
+  exec-sized room (Store s a b imm) h = store-sized s _ _
+  exec-sized room (OpImm o d a imm) h = wrote-sized d _ _ (alu-lt o _ imm (reg-lt a) h) next-lt
+  exec-sized room (Shift o d a amount) h = wrote-sized d _ _ (alu-lt o _ amount (reg-lt a) h) next-lt
+  exec-sized room (Op o d a b) h = wrote-sized d _ _ (alu-lt o _ _ (reg-lt a) (reg-lt b)) next-lt
+  exec-sized room (Fence d a imm) h = goto-sized _ next-lt
   exec-sized room Ecall h = call-sized room
   exec-sized room Ebreak h = halt-sized (Fault 4)
   exec-sized room Unknown h = halt-sized (Fault 2)

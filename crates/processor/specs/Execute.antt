@@ -62,7 +62,7 @@ sizeOf Word = 4
 sizeOf ByteU = 1
 sizeOf HalfU = 2
 
--- "fault 3: a load or store that isn't aligned to its size, or leaves memory, or lies below 0x100000"
+-- whether a load or store may be: else it is fault 3, "a load or store that isn't aligned to its size, or leaves memory, or lies below 0x100000" (§4)
 unfoldable pub reaches : Width → ℕ → Bool
 reaches s at = both (eqb (at % sizeOf s) 0) (both (leb (at + sizeOf s) memory-bytes) (leb data-start at))
 
@@ -82,7 +82,7 @@ writeAt Word m i v = set (set (set (set m i (byte₀ v)) (i + 1) (byte₁ v)) (i
 
 -- How an instruction ends.
 
--- gone on at p; with memory changed; with register rd written
+-- gone on at p; with memory changed; with register rd written; with a number appended to the log
 abbrev pub goto : Machine → ℕ → Machine
 goto m p = state (m .registers) p (m .memory) (m .log) Going
 
