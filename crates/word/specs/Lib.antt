@@ -1,3 +1,4 @@
 pub mod Choice
 pub mod Word
 pub mod Bytes
+pub mod Examples

@@ -1,0 +1,9 @@
+pub mod Cases
+pub mod Sign
+pub mod Halves
+pub mod Extend
+pub mod ByZero
+pub mod Range
+pub mod Sums
+pub mod SignedOrder
+pub mod WordBytes
