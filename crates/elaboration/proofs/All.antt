@@ -36,6 +36,10 @@ unfolding need
 needed {b = true} at = kept refl
 needed {b = false} at = broken
 
+-- what follows from a property
+pub so : {A : Type 0} {P Q : A → Type 0} {m : Ruled A} → ((a : A) → P a → Q a) → All P m → All Q m
+so k h = record { holds = λ a e. k a (h .holds a e) }
+
 -- a property under an assumption
 pub given : {A H : Type 0} {P : A → Type 0} {m : Ruled A} → (H → All P m) → All (λ a. H → P a) m
 given k = record { holds = λ a e h. k h .holds a e }
