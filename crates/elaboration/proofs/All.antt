@@ -36,9 +36,12 @@ unfolding need
 needed {b = true} at = kept refl
 needed {b = false} at = broken
 
--- what follows from a property
+-- what follows from a property; two at once
 pub so : {A : Type 0} {P Q : A → Type 0} {m : Ruled A} → ((a : A) → P a → Q a) → All P m → All Q m
 so k h = record { holds = λ a e. k a (h .holds a e) }
+
+pub also : {A : Type 0} {P Q : A → Type 0} {m : Ruled A} → All P m → All Q m → All (λ a. P a × Q a) m
+also h k = record { holds = λ a e. (h .holds a e, k .holds a e) }
 
 -- a property under an assumption
 pub given : {A H : Type 0} {P : A → Type 0} {m : Ruled A} → (H → All P m) → All (λ a. H → P a) m

@@ -1,3 +1,11 @@
 pub mod All
 pub mod Tokens
 pub mod Declarations
+pub mod Measures
+pub mod Expressions
+pub mod Blocks
+pub mod Statements
+pub mod Functions
+pub mod Locals
+pub mod Programs
+pub mod Accepted

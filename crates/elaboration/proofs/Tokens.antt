@@ -100,6 +100,17 @@ nth-small Each.none i t e = subst SmallIn e tt
 nth-small (Each.more h hs) zero t e = subst SmallIn e h
 nth-small (Each.more h hs) (suc i) t e = nth-small hs i t e
 
+abbrev Absent : Option Token → Type 0
+Absent none = Unit {0}
+Absent (some t) = ⊥
+
 -- the number at token i of a text
 pub number-small : {text : List ℕ} {ts : List Placed} → Readable text ts → (i n : ℕ) → Has (nth ts) i (Token.number n) → n ≤ largest-number
 number-small r i n e = nth-small (tokens-small (r .reads)) i (Token.number n) e
+
+-- token i is one of them
+pub token-inside : (ts : List Placed) (i : ℕ) (t : Token) → Has (nth ts) i t → i < length ts
+unfolding nth
+token-inside [] i t e = absurd (subst Absent e tt)
+token-inside (q ∷ ts) zero t e = omega arith
+token-inside (q ∷ ts) (suc i) t e = let h = token-inside ts i t e in omega (arith, h)
