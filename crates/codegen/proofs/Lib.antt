@@ -6,3 +6,5 @@ pub mod Macros
 pub mod Elements
 pub mod Activation
 pub mod Operators
+pub mod Calls
+pub mod Expressions

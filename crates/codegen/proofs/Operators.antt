@@ -140,11 +140,11 @@ differs : (v : ℕ) → condOf Ne v 0 ≡ not (eqb v 0)
 unfolding condOf
 differs v = refl
 
-one-is : aluOf Add 0 1 ≡ 1
+pub one-is : aluOf Add 0 1 ≡ 1
 unfolding aluOf addW
 one-is = refl
 
-zero-is : aluOf Add 0 0 ≡ 0
+pub zero-is : aluOf Add 0 0 ≡ 0
 unfolding aluOf addW
 zero-is = refl
 

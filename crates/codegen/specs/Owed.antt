@@ -96,14 +96,14 @@ module _ (functions : List Function) (elements : ℕ) where
     RunsAll n C.end = Unit {0}
     RunsAll n (C.then s b) = Runs n s × RunsAll n b
 
-  pub record Sound (g : Function) : Type 0 where
+  pub record Proper (g : Function) : Type 0 where
     pub few : g .parameters ≤ most-parameters
     pub locals : g .parameters + g .lets ≤ most-locals
     pub body : RunsAll (g .parameters + g .lets) (g .body)
     pub short : sizeOf (g .body) ≤ most-nodes
 
 pub record Owed (p : Program) : Type 0 where
-  pub each : (f : ℕ) → f < length (p .functions) → Sound (p .functions) (p .elements) (getD (p .functions) f nothing)
+  pub each : (f : ℕ) → f < length (p .functions) → Proper (p .functions) (p .elements) (getD (p .functions) f nothing)
   pub main-known : p .main < length (p .functions)
   pub main-alone : getD (p .functions) (p .main) nothing .parameters ≡ 0
   pub few-elements : p .elements ≤ most-elements
