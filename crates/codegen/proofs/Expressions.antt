@@ -25,7 +25,7 @@ use Rattle.symbolic.specs.Symbolic.{Fixed, Scratch, Argument, Temporary, Reg, x
 use Rattle.codegen.specs.Places.{Place, constant, local, temporary, above, inRegister, source, fetch, target, keep, move}
 use Rattle.codegen.specs.Operators.{operating, result, applying, relation, comparing, testing, always, reading}
 use Rattle.codegen.specs.Expressions.{placeOf, placesOf, calling, decidingBy, code, codes, condition}
-use Rattle.codegen.specs.Owed.{nodes, nodesOf, count, nothing, Callable, Fits, FitsAll}
+use Rattle.codegen.specs.Owed.{nodes, nodesOf, count, nothing, Callable, Fits, FitsAll, Tests}
 use Rattle.codegen.proofs.Placement.{At, at-split, at-len}
 use Rattle.codegen.proofs.Logic.{K, Arrays, Setting, spent, Post, Sound, sound-rates, sound-bind, sound-bind′, sound-then, sound-then′, sound-post, sound-begin, sound-end, sound-pure, sound-ran, Ran, ran-none, ran-step, ran-trans, ran-most}
 use Rattle.codegen.proofs.Frame.{Same, only-same, same-join, valueAt, There, Stable, value-same}
@@ -390,7 +390,7 @@ module _ (L : Linked) (A : Activation L) where
   left-of (C.and a b) d m w h = omega (arith, w .0)
   left-of (C.or a b) d m w h = omega (arith, w .0)
 
-  places-count : (xs : Args) (d : ℕ) → length (placesOf xs d) ≡ count xs
+  pub places-count : (xs : Args) (d : ℕ) → length (placesOf xs d) ≡ count xs
   unfolding placesOf
   places-count C.none d = refl
   places-count (C.more e xs) d = ap suc (places-count xs (above (placeOf e d) d))
@@ -404,7 +404,7 @@ module _ (L : Linked) (A : Activation L) where
   -- every function takes at most 8 arguments
   module _ (small : (f : ℕ) → f < length (L .functions) → getD (L .functions) f nothing .parameters ≤ 8) where
     mutual
-      unfolding eval evals code codes condition placeOf placesOf nodes nodesOf Fits FitsAll
+      unfolding eval evals code codes condition placeOf placesOf nodes nodesOf Fits FitsAll Tests
 
       pub expr : (e : Expr) (d m p q : ℕ) → Fits (L .functions) (S .elements) (A .N) e m → d + m ≤ 431 → At (S .code) p (code (L .entry) (A .near) e d) q
           → ExprIn (ev e) (nodes e) d p q (placeOf e d)
@@ -454,7 +454,7 @@ module _ (L : Linked) (A : Activation L) where
           more-in (ev e) (evs xs) (nodes e) (nodesOf xs) d p (t .0) q (placeOf e d) (placesOf xs d2) (fit-of e d m (w .0) h)
           (expr e d m p (t .0) (w .0) h (t .1)) (args xs d2 (m - 1) (t .0) q (w .1) (left-of e d m (w .0) h) (t .2))
 
-      pub cond : (e : Expr) (t : Bool) (d m p q k : ℕ) → Fits (L .functions) (S .elements) (A .N) e m → d + m ≤ 431 → At (S .code) p (condition (L .entry) (A .near) e t d k) q
+      pub cond : (e : Expr) (t : Bool) (d m p q k : ℕ) → Tests (L .functions) (S .elements) (A .N) e m → d + m ≤ 431 → At (S .code) p (condition (L .entry) (A .near) e t d k) q
           → CondIn (ev e) (nodes e) t d p q k
       cond (C.number n) s d m p q k w h hc = always-in n d p q k s hc
       cond (C.local x) s d m p q k w h hc = test-in (ev (C.local x)) s 1 d p p q k (local x) w (local-in x d p w) hc
@@ -470,7 +470,7 @@ module _ (L : Linked) (A : Activation L) where
           test-in (ev (C.call f xs)) s (suc (nodesOf xs)) d p (v .0) q k (temporary d) (refl, omega (arith, w .0))
           (call-in (evs xs) f (nodesOf xs) d p (t .0) (u .0) (v .0) (placesOf xs d) (omega (arith, w .0)) (w .1 .known) (places-count xs d ∙ w .1 .arity)
           (let k = places-count xs d ∙ w .1 .arity in let s = small f (w .1 .known) in omega (arith, k, s)) (args xs d m p (t .0) (w .2) h (t .1)) (u .1) (u .2 .0, v .1)) (v .2)
-      cond (C.unary T.not e) s d m p q k w h hc = not-in (ev e) s (nodes e) d p q k (cond e (B2.not s) d m p q k (w .1) h hc)
+      cond (C.unary T.not e) s d m p q k w h hc = not-in (ev e) s (nodes e) d p q k (cond e (B2.not s) d m p q k w h hc)
       cond (C.unary T.negate e) s d m p q k w h hc =
           let t = at-split (S .code) p (code (L .entry) (A .near) e d) (applying T.negate (placeOf e d) d ++ testing (A .near) s (result T.negate (placeOf e d) d) k) q hc in
           let u = at-split (S .code) (t .0) (applying T.negate (placeOf e d) d) (testing (A .near) s (result T.negate (placeOf e d) d) k) q (t .2) in
@@ -490,22 +490,22 @@ module _ (L : Linked) (A : Activation L) where
           let t = at-split (S .code) p (condition (L .entry) (A .near) a false d (length right + k)) right q hc in
           let len = at-len (S .code) (t .0) right q (t .2) in
           and-false (ev a) (ev b) (nodes a) (nodes b) d p (t .0) q (length right + k) k (omega (arith, len)) (omega (arith, len))
-          (cond a false d (m - 1) p (t .0) (length right + k) (w .1) (omega arith) (t .1)) (cond b false d m (t .0) q k (w .2) h (t .2))
+          (cond a false d m p (t .0) (length right + k) (w .0) h (t .1)) (cond b false d m (t .0) q k (w .1) h (t .2))
       cond (C.and a b) true d m p q k w h hc =
           let right = condition (L .entry) (A .near) b true d k in
           let t = at-split (S .code) p (condition (L .entry) (A .near) a false d (length right)) right q hc in
           let len = at-len (S .code) (t .0) right q (t .2) in
           and-true (ev a) (ev b) (nodes a) (nodes b) d p (t .0) q (length right) k (omega (arith, len)) (omega (arith, len))
-          (cond a false d (m - 1) p (t .0) (length right) (w .1) (omega arith) (t .1)) (cond b true d m (t .0) q k (w .2) h (t .2))
+          (cond a false d m p (t .0) (length right) (w .0) h (t .1)) (cond b true d m (t .0) q k (w .1) h (t .2))
       cond (C.or a b) true d m p q k w h hc =
           let right = condition (L .entry) (A .near) b true d k in
           let t = at-split (S .code) p (condition (L .entry) (A .near) a true d (length right + k)) right q hc in
           let len = at-len (S .code) (t .0) right q (t .2) in
           or-true (ev a) (ev b) (nodes a) (nodes b) d p (t .0) q (length right + k) k (omega (arith, len)) (omega (arith, len))
-          (cond a true d (m - 1) p (t .0) (length right + k) (w .1) (omega arith) (t .1)) (cond b true d m (t .0) q k (w .2) h (t .2))
+          (cond a true d m p (t .0) (length right + k) (w .0) h (t .1)) (cond b true d m (t .0) q k (w .1) h (t .2))
       cond (C.or a b) false d m p q k w h hc =
           let right = condition (L .entry) (A .near) b false d k in
           let t = at-split (S .code) p (condition (L .entry) (A .near) a true d (length right)) right q hc in
           let len = at-len (S .code) (t .0) right q (t .2) in
           or-false (ev a) (ev b) (nodes a) (nodes b) d p (t .0) q (length right) k (omega (arith, len)) (omega (arith, len))
-          (cond a true d (m - 1) p (t .0) (length right) (w .1) (omega arith) (t .1)) (cond b false d m (t .0) q k (w .2) h (t .2))
+          (cond a true d m p (t .0) (length right) (w .0) h (t .1)) (cond b false d m (t .0) q k (w .1) h (t .2))

@@ -8,3 +8,4 @@ pub mod Activation
 pub mod Operators
 pub mod Calls
 pub mod Expressions
+pub mod Statements
