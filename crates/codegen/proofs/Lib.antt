@@ -9,3 +9,4 @@ pub mod Operators
 pub mod Calls
 pub mod Expressions
 pub mod Statements
+pub mod Functions

@@ -293,7 +293,7 @@ module _ (L : Linked) (A : Activation L) where
         on = refl; here = refl; sp-is = c .sp-is; limit-is = c .limit-is; request-is = c .request-is; is = hv; log-is = c .log-is; arrays = c .arrays; below = c .below; less = hf })
 
   -- the register of results is written, nothing else that matters
-  core-answer : {q : ℕ} {ls : List ℕ} {w : World} {σ τ : State} → Cor L A ls w σ → Only Argument 0 q σ τ → Cor L A ls w τ
+  pub core-answer : {q : ℕ} {ls : List ℕ} {w : World} {σ τ : State} → Cor L A ls w σ → Only Argument 0 q σ τ → Cor L A ls w τ
   core-answer c o = record {
     sp-is = o .other Fixed 1 refl ∙ c .sp-is; limit-is = o .other Fixed 2 refl ∙ c .limit-is; request-is = o .other Argument 7 refl ∙ c .request-is; log-is = o .log ∙ c .log-is;
     arrays = arrays-same L A (λ a h. o .memory a) (c .arrays); many = c .many; locals = λ y h. o .memory _ ∙ c .locals y h; ra-is = o .memory _ ∙ c .ra-is;
