@@ -1,4 +1,8 @@
 pub mod Fields
-pub mod Immediates
+pub mod ImmediateBits
 pub mod Tables
 pub mod Round
+pub mod Ways
+pub mod Kept
+pub mod Onward
+pub mod Fetch

@@ -1,11 +1,11 @@
 -- An instruction that is fine is one that has a word, wherever in the code it stands.
-use Prim.Native.Nat.{ℕ, _+_, _-_, _≤_, _<_}
-use mathlib.Core.Path.{_≡_, refl}
+use Prim.Native.Nat.{ℕ, _+_, _-_, _<_}
+use mathlib.Core.Path.{refl}
 use native.Mathlib.Omega.{arith}
 use Rattle.processor.specs.Instructions.{WellFormed}
-use Rattle.symbolic.specs.Symbolic.{Reg, Instruction, lui, opi, shift, mv, op, lw, sw, branch, branchBack, jump, jumpBack, call, ret, ecall, bad}
+use Rattle.symbolic.specs.Symbolic.{Instruction, lui, opi, shift, mv, op, lw, sw, branch, branchBack, jump, jumpBack, call, ret, ecall, bad}
 use Rattle.symbolic.specs.Real.{real}
-use Rattle.symbolic.specs.Fine.{Valid, Fine, most-instructions}
+use Rattle.symbolic.specs.Fine.{Fine, most-instructions}
 use Rattle.symbolic.proofs.Registers.{number-small}
 use Rattle.symbolic.proofs.Immediates.{small12}
 use Rattle.symbolic.proofs.Distances.{branch-holds, jump-holds}

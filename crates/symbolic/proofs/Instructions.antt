@@ -1,6 +1,6 @@
 -- Each instruction of the symbolic processor, where it doesn't fault, does what its real instruction does.
-use Prim.Native.Nat.{ℕ, suc, _+_, _-_, _*_, _/_, _%_, _^_, _≤_, _<_}
-use mathlib.Core.Path.{_≡_, refl, sym, ap, _∙_, subst}
+use Prim.Native.Nat.{ℕ, suc, _+_, _-_, _*_, _/_, _^_, _≤_, _<_}
+use mathlib.Core.Path.{_≡_, refl, ap, _∙_}
 use mathlib.Core.Bool.{Bool, true, false}
 use mathlib.Core.List.{List}
 use native.Mathlib.Omega.{arith}
@@ -12,7 +12,6 @@ use Rattle.word.specs.Word.{addW, signExtend}
 use Rattle.word.proofs.Sums.{addW-zero}
 use Rattle.processor.specs.declared.Alu.{Alu}
 use Rattle.processor.specs.declared.Alu.the-variants.{Add}
-use Rattle.processor.specs.declared.Cond.{Cond}
 use Rattle.processor.specs.declared.Width.the-variants.{Word}
 use Rattle.processor.specs.declared.Status.{Status}
 use Rattle.processor.specs.declared.Status.the-variants.{Going, Exit, Trap, Fault, Limit}
@@ -21,7 +20,7 @@ use Rattle.processor.specs.Machine as R
 use Rattle.processor.specs.Machine.{Machine}
 use Rattle.processor.specs.Execute as E
 use Rattle.processor.specs.Execute.{aluOf, condOf, reaches, readAt, writeAt, wrote, stored, logged, halt, next, loadOf, storeOf, callOf, execOf}
-use Rattle.symbolic.specs.Symbolic.{Reg, x0, reg, number, ra, request, answer, Instruction, lui, opi, shift, mv, op, lw, sw, branch, branchBack, jump, jumpBack, call, ret, ecall, bad, State, state, get, value, pos, positionOf, quit, goto, puts, stores, logs, ecallOf, exec1}
+use Rattle.symbolic.specs.Symbolic.{Reg, reg, number, ra, request, answer, Instruction, lui, opi, shift, mv, op, lw, sw, branch, branchBack, jump, jumpBack, call, ret, ecall, bad, State, value, pos, positionOf, quit, goto, puts, stores, logs, ecallOf, exec1}
 use Rattle.symbolic.specs.Real.{distance, real}
 use Rattle.symbolic.specs.Fine.{Valid, Fine, most-instructions}
 use Rattle.symbolic.proofs.Operations.{alu-lt}

@@ -6,6 +6,14 @@ pub mod Operations
 pub mod Immediates
 pub mod Distances
 pub mod Encodable
+pub mod AllFine
 pub mod Match
 pub mod Instructions
 pub mod Runs
+pub mod Shown
+pub mod Lock
+pub mod Placed
+pub mod Steps
+pub mod Start
+pub mod Arrays
+pub mod Follows

@@ -1,31 +1,24 @@
 -- Memory as a map of words is memory of bytes from 0x100000 on, with the code's words below, and stays so after a store.
-use Prim.Native.Nat.{ℕ, _+_, _*_, _%_, _^_, _≤_, _<_}
-use mathlib.Core.Path.{_≡_, refl, sym, ap, _∙_}
+use Prim.Native.Nat.{ℕ, _+_, _%_, _^_, _≤_, _<_}
+use mathlib.Core.Path.{_≡_, refl, ap, _∙_}
 use mathlib.Core.Bool.{Bool, true, false}
 use mathlib.Core.List.{List}
 use native.Mathlib.Omega.{arith}
-use lib.Dec.{leb, eqb}
+use lib.Dec.{eqb}
 use lib.ListN.{length, getD}
-use borrow.Author.Tests.{leb-true, eqb-true, eqb-false, le-leb, eq-eqb}
-use Rattle.word.specs.Choice.{pick, both}
+use borrow.Author.Tests.{eqb-true, eqb-false, le-leb, eq-eqb}
+use Rattle.word.specs.Choice.{pick}
 use Rattle.processor.specs.declared.Width.the-variants.{Word}
 use Rattle.processor.specs.Instructions.{encodeOf}
 use Rattle.processor.specs.Machine.{wordAt, memory-bytes, data-start}
 use Rattle.processor.specs.Execute.{reaches, writeAt}
+use Rattle.processor.proofs.Kept.{reached, write-length}
 use Rattle.symbolic.specs.Symbolic.{Instruction, bad, updated, pos}
 use Rattle.symbolic.specs.Real.{real}
 use Rattle.symbolic.specs.Fine.{most-instructions}
-use Rattle.symbolic.proofs.Tests.{both-true}
-use Rattle.symbolic.proofs.Words.{write-length, word-other, word-same}
+use Rattle.symbolic.proofs.Words.{word-other, word-same}
 
 -- Where words are loaded and stored.
-
-pub reach-facts : (a : ℕ) → reaches Word a ≡ true → (a % 4 ≡ 0) × (a + 4 ≤ memory-bytes) × (data-start ≤ a)
-unfolding reaches
-reach-facts a e =
-    let p = both-true (eqb (a % 4) 0) _ e in
-    let q = both-true (leb (a + 4) memory-bytes) _ (p .1) in
-    (eqb-true _ _ (p .0), leb-true _ _ (q .0), leb-true _ _ (q .1))
 
 pub in-reach : (a : ℕ) → a % 4 ≡ 0 → a + 4 ≤ memory-bytes → data-start ≤ a → reaches Word a ≡ true
 unfolding reaches
@@ -40,20 +33,20 @@ pub record SameMemory (code : List Instruction) (f : ℕ → ℕ) (m : List ℕ)
 pub stored : {code : List Instruction} {f : ℕ → ℕ} {m : List ℕ} (a v : ℕ) → length code ≤ most-instructions → SameMemory code f m → reaches Word a ≡ true → v < 2 ^ 32
     → SameMemory code (updated f a v) (writeAt Word m a v)
 stored {code} {f} {m} a v short s ha hv =
-    let A = reach-facts a ha in
+    let A = reached Word a ha in
     record {
       reads = λ b hb. reads b hb (eqb b a) refl;
       words = λ b hb. words b hb (eqb b a);
-      size = write-length m a v ∙ s .size;
-      code-in = λ k hk. word-other m a v (pos k) (A .0) (omega arith) (λ e. omega arith) ∙ s .code-in k hk;
+      size = write-length Word m a v ∙ s .size;
+      code-in = λ k hk. word-other m a v (pos k) (A .aligned) (omega arith) (λ e. omega arith) ∙ s .code-in k hk;
     }
   where
     reads : (b : ℕ) → reaches Word b ≡ true → (t : Bool) → eqb b a ≡ t → wordAt (writeAt Word m a v) b ≡ pick t v (f b)
     reads b hb true e =
-        let A = reach-facts a ha in
+        let A = reached Word a ha in
         let l = s .size in
         ap (λ (w : ℕ). wordAt (writeAt Word m a v) w) (eqb-true _ _ e) ∙ word-same m a v (omega arith) hv
-    reads b hb false e = word-other m a v b (reach-facts a ha .0) (reach-facts b hb .0) (eqb-false _ _ e) ∙ s .reads b hb
+    reads b hb false e = word-other m a v b (reached Word a ha .aligned) (reached Word b hb .aligned) (eqb-false _ _ e) ∙ s .reads b hb
 
     words : (b : ℕ) → reaches Word b ≡ true → (t : Bool) → pick t v (f b) < 2 ^ 32
     words b hb true = hv

@@ -1,14 +1,14 @@
 -- Every operation of two words gives a word.
-use Prim.Native.Nat.{ℕ, _-_, _%_, _^_, _<_}
+use Prim.Native.Nat.{ℕ, _%_, _^_, _<_}
 use mathlib.Core.Bool.{Bool, true, false}
 use native.Mathlib.Omega.{arith}
 use lib.Dec.{eqb}
 use Rattle.word.specs.Choice.{pick}
-use Rattle.word.specs.Word.{quotS, quotU, remS, remU, bitOf, ltS, ltU}
+use Rattle.word.specs.Word.{bitOf, ltS, ltU}
 use Rattle.word.proofs.Range.{addW-lt, subW-lt, mulW-lt, quotS-lt, remS-lt, quotU-lt, remU-lt, andW-lt, orW-lt, xorW-lt, shlW-lt, shrU-lt, shrS-lt, mulhSS-lt, mulhSU-lt, mulhUU-lt, bitOf-lt}
 use Rattle.processor.specs.declared.Alu.{Alu}
 use Rattle.processor.specs.declared.Alu.the-variants.{Add, Sub, Sll, Slt, Sltu, Xor, Srl, Sra, Or, And, Mul, Mulh, Mulhsu, Mulhu, Div, Divu, Rem, Remu}
-use Rattle.processor.specs.Execute.{aluOf, all-ones}
+use Rattle.processor.specs.Execute.{aluOf}
 
 chosen : (t : Bool) {a b : ℕ} → a < 2 ^ 32 → b < 2 ^ 32 → pick t a b < 2 ^ 32
 chosen true h k = h

@@ -1,17 +1,18 @@
 -- The banks are the list of registers: what is read of one is read of the other, and stays so after a write.
-use Prim.Native.Nat.{ℕ, suc, _+_, _^_, _<_, _≤_}
+use Prim.Native.Nat.{ℕ, _+_, _^_, _<_}
 use mathlib.Core.Path.{_≡_, refl, sym, ap, _∙_}
 use mathlib.Core.Bool.{Bool, true, false}
 use mathlib.Core.List.{List}
 use native.Mathlib.Omega.{arith}
 use native.Mathlib.Decide.{ℕ-discrete}
-use lib.Dec.{ltb, eqb, T}
+use lib.Dec.{ltb, eqb}
 use lib.ListN as L
-use lib.ListN.{length, getD, length-set}
+use lib.ListN.{length, getD}
 use lib.Seq.{getD-set-other, getD-set-same}
 use borrow.Author.Tests.{lt-ltb, le-ltb, eqb-true, eq-eqb, ne-eqb}
 use Rattle.word.specs.Choice.{pick, both}
 use Rattle.processor.specs.Machine.{register-count, register, setRegister}
+use Rattle.processor.proofs.Kept.{setRegister-length}
 use Rattle.symbolic.specs.Symbolic.{Bank, Fixed, Scratch, Argument, Saved, Temporary, first, width, Reg, x0, reg, number, Registers, get, set}
 use Rattle.symbolic.specs.Fine.{Valid}
 use Rattle.symbolic.proofs.Tests.{both-true}
@@ -79,14 +80,6 @@ list-other l r j v ne = ap (λ (w : ℕ). pick (eqb j 0) 0 w) (go (eqb r 0))
     go true = refl
     go false = getD-set-other l r j v 0 ne
 
-list-length : (l : List ℕ) (r v : ℕ) → length (setRegister l r v) ≡ length l
-unfolding setRegister
-list-length l r v = go (eqb r 0)
-  where
-    go : (t : Bool) → length (pick t l (L.set l r v)) ≡ length l
-    go true = refl
-    go false = length-set l r v
-
 -- no write changes x0
 pub zero-kept : (l : List ℕ) (v : ℕ) → setRegister l 0 v ≡ l
 unfolding setRegister
@@ -100,7 +93,7 @@ pub record SameRegisters (x : Registers) (l : List ℕ) : Type 0 where
 pub written : {x : Registers} {l : List ℕ} (r : Reg) (v : ℕ) → SameRegisters x l → Valid r → v < 2 ^ 32 → SameRegisters (set r v x) (setRegister l (number r) v)
 unfolding setRegister
 written x0 v s ok h = s
-written {x} {l} (reg b n) v s ok h = record { reads = reads; words = words; count = list-length l (first b + n) v ∙ s .count }
+written {x} {l} (reg b n) v s ok h = record { reads = reads; words = words; count = setRegister-length l (first b + n) v ∙ s .count }
   where
     reads : (r : Reg) → Valid r → register (setRegister l (first b + n) v) (number r) ≡ get r (set (reg b n) v x)
     reads x0 k = let p = first-positive b in list-other l (first b + n) 0 v (λ e. omega arith) ∙ s .reads x0 k

@@ -1,6 +1,6 @@
 -- Runs of the symbolic processor by itself: one after the other, after a stop, at a known instruction; the log only grows.
-use Prim.Native.Nat.{ℕ, zero, suc, _+_, _-_, _≤_, _<_}
-use mathlib.Core.Path.{_≡_, refl, sym, ap, _∙_}
+use Prim.Native.Nat.{ℕ, zero, suc, _+_, _-_, _≤_}
+use mathlib.Core.Path.{_≡_, refl, sym, ap, _∙_, subst}
 use mathlib.Core.Bool.{Bool, true, false}
 use mathlib.Core.List.{List, [], _∷_, _++_, append-nil, append-assoc}
 use native.Mathlib.Nat.{zero-add, suc-add}
@@ -13,7 +13,7 @@ use Rattle.processor.specs.declared.Width.the-variants.{Word}
 use Rattle.processor.specs.declared.Status.{Status}
 use Rattle.processor.specs.declared.Status.the-variants.{Going, Exit, Trap, Fault, Limit}
 use Rattle.processor.specs.Execute.{reaches}
-use Rattle.symbolic.specs.Symbolic.{Instruction, lui, opi, shift, mv, op, lw, sw, branch, branchBack, jump, jumpBack, call, ret, ecall, bad, State, value, ra, request, answer, pos, positionOf, quit, ecallOf, exec1, stepBy, step, run, countBy, count}
+use Rattle.symbolic.specs.Symbolic.{Instruction, lui, opi, shift, mv, op, lw, sw, branch, branchBack, jump, jumpBack, call, ret, ecall, bad, State, value, ra, request, answer, pos, positionOf, ecallOf, exec1, stepBy, step, run, countBy, count}
 
 -- a state that doesn't go on
 abbrev pub Stopped : Status → Type 0
@@ -63,8 +63,8 @@ module _ (room : ℕ) (code : List Instruction) where
 
   pub later : (m n : ℕ) (σ : State) → m ≤ n → Stopped (run room code m σ .status) → run room code n σ ≡ run room code m σ
   later m n σ h k =
-    let e : n ≡ m + (n - m) = omega arith in
-    ap (λ (i : ℕ). run room code i σ) e ∙ run-add m (n - m) σ ∙ rests (n - m) (run room code m σ) k
+      let e : n ≡ m + (n - m) = omega arith in
+      ap (λ (i : ℕ). run room code i σ) e ∙ run-add m (n - m) σ ∙ rests (n - m) (run room code m σ) k
 
   exec-log : (i : Instruction) (σ : State) → Begins (σ .log) (exec1 room i σ .log)
   unfolding ecallOf
@@ -82,9 +82,9 @@ module _ (room : ℕ) (code : List Instruction) where
   exec-log (call t) σ = begins-same
   exec-log ret σ = begins-pick (eqb (pos (positionOf (value σ ra))) (value σ ra)) _ _ (σ .log) begins-same begins-same
   exec-log ecall σ =
-    begins-pick (eqb (value σ request) 0) _ _ (σ .log) begins-same
-    (begins-pick (eqb (value σ request) 1) _ _ (σ .log) (begins-pick (ltb (length (σ .log)) room) _ _ (σ .log) (value σ answer ∷ [], refl) begins-same)
-    (begins-pick (eqb (value σ request) 2) _ _ (σ .log) begins-same begins-same))
+      begins-pick (eqb (value σ request) 0) _ _ (σ .log) begins-same
+      (begins-pick (eqb (value σ request) 1) _ _ (σ .log) (begins-pick (ltb (length (σ .log)) room) _ _ (σ .log) (value σ answer ∷ [], refl) begins-same)
+      (begins-pick (eqb (value σ request) 2) _ _ (σ .log) begins-same begins-same))
   exec-log bad σ = begins-same
 
   step-log : (s : Status) (σ : State) → Begins (σ .log) (stepBy room s code σ .log)
@@ -111,3 +111,17 @@ module _ (room : ℕ) (code : List Instruction) where
   unfolding count
   count-most zero σ = omega arith
   count-most (suc n) σ = count-by (step room code σ .status) n (count room code n (step room code σ)) (count-most n (step room code σ))
+
+  -- and none after it
+  count-same : (s : Status) (a b : ℕ) → (s ≡ Going → a ≡ b) → countBy room s a ≡ countBy room s b
+  count-same Going a b h = ap suc (h refl)
+  count-same Exit a b h = refl
+  count-same (Trap t) a b h = refl
+  count-same (Fault f) a b h = refl
+  count-same Limit a b h = refl
+
+  pub count-later : (m n : ℕ) (σ : State) → σ .status ≡ Going → Stopped (run room code m σ .status) → count room code (m + n) σ ≡ count room code m σ
+  unfolding run count
+  count-later zero n σ on h = absurd (subst Stopped on h)
+  count-later (suc m) n σ on h =
+      rw suc-add (count-same (step room code σ .status) (count room code (m + n) (step room code σ)) (count room code m (step room code σ)) (λ on′. count-later m n (step room code σ) on′ h))

@@ -1,6 +1,6 @@
 -- Memory of bytes, seen as words: what a store leaves, and what it doesn't touch.
-use Prim.Native.Nat.{ℕ, _+_, _*_, _/_, _%_, _^_, _≤_, _<_}
-use mathlib.Core.Path.{_≡_, refl, sym, ap, _∙_}
+use Prim.Native.Nat.{ℕ, _+_, _%_, _^_, _≤_, _<_}
+use mathlib.Core.Path.{_≡_, _∙_}
 use mathlib.Core.List.{List}
 use native.Mathlib.Omega.{arith}
 use lib.ListN.{length, getD, set, length-set}
@@ -41,11 +41,6 @@ module _ (m : List ℕ) (a w x y z : ℕ) where
       (getD-set-other m3 (a + 3) (a + 1) z 0 (λ e. omega arith) ∙ getD-set-other m2 (a + 2) (a + 1) y 0 (λ e. omega arith) ∙ getD-set-same m1 (a + 1) x 0 (rw length-set (omega arith)))
       (getD-set-other m3 (a + 3) (a + 2) z 0 (λ e. omega arith) ∙ getD-set-same m2 (a + 2) y 0 (simp length-set (omega arith)))
       (getD-set-same m3 (a + 3) z 0 (simp length-set (omega arith)))
-
--- a store keeps the length
-pub write-length : (m : List ℕ) (a v : ℕ) → length (writeAt Word m a v) ≡ length m
-unfolding writeAt
-write-length m a v = simp length-set
 
 -- a byte that a store doesn't reach
 byte-other : (m : List ℕ) (a v j : ℕ) → (j ≡ a → ⊥) → (j ≡ a + 1 → ⊥) → (j ≡ a + 2 → ⊥) → (j ≡ a + 3 → ⊥) → getD (writeAt Word m a v) j 0 ≡ getD m j 0

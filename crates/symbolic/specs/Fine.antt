@@ -1,7 +1,6 @@
 -- What code must keep to so that each of its instructions has a word: registers of their banks, immediates that the format holds, targets in reach.
 use Prim.Native.Nat.{ℕ, _≤_, _<_}
 use mathlib.Core.List.{List, [], _∷_}
-use lib.ListN.{length}
 use Rattle.processor.specs.Instructions.{aluKey, immediates, shifts, Extended, Upper, Among}
 use Rattle.symbolic.specs.Symbolic.{Reg, x0, reg, width, Instruction, lui, opi, shift, mv, op, lw, sw, branch, branchBack, jump, jumpBack, call, ret, ecall, bad}
 

@@ -1,3 +1,4 @@
 pub mod Symbolic
 pub mod Real
 pub mod Fine
+pub mod Examples

@@ -1,7 +1,6 @@
 -- The symbolic processor: one instruction of it is one instruction of document 03. Registers stand in banks by their role, memory is a map from addresses
 -- of words to words, and pc counts instructions. It faults wherever the real processor does, and more often: what is followed are the runs that don't fault.
 use Prim.Native.Nat.{ℕ, zero, suc, _+_, _-_, _*_, _/_}
-use mathlib.Core.Bool.{Bool, true, false}
 use mathlib.Core.List.{List, [], _∷_, _++_}
 use lib.Dec.{ltb, eqb}
 use lib.ListN.{length, getD}
@@ -12,7 +11,7 @@ use Rattle.processor.specs.declared.Cond.{Cond}
 use Rattle.processor.specs.declared.Width.the-variants.{Word}
 use Rattle.processor.specs.declared.Status.{Status}
 use Rattle.processor.specs.declared.Status.the-variants.{Going, Exit, Trap, Fault, Limit}
-use Rattle.processor.specs.Machine.{code-start}
+use Rattle.processor.specs.Machine.{code-start, data-start}
 use Rattle.processor.specs.Execute.{aluOf, condOf, reaches}
 
 -- Registers.
@@ -133,12 +132,16 @@ set (reg b n) v x = λ c j. pick (both (eqb (first c) (first b)) (eqb j n)) v (x
 abbrev pub updated : {A : Type 0} → (ℕ → A) → ℕ → A → (ℕ → A)
 updated f k v = λ j. pick (eqb j k) v (f j)
 
--- The address of the instruction at position k, and the position of an address. (T10 changes these two and nothing else.)
+-- The address of the instruction at position k, and the position of an address. (T10 changes these two.)
 abbrev pub pos : ℕ → ℕ
 pos k = code-start + 4 * k
 
 abbrev pub positionOf : ℕ → ℕ
 positionOf a = (a - code-start) / 4
+
+-- The state at the start, with these words in the input block: all else is 0.
+abbrev pub initial : List ℕ → State
+initial arrays = state Going 0 (λ b n. 0) (λ a. getD arrays ((a - data-start) / 4) 0) []
 
 -- Steps.
 
@@ -208,7 +211,7 @@ module _ (room : ℕ) where
   countBy Exit n = 1
   countBy (Trap t) n = 1
   countBy (Fault f) n = 1
-  countBy Limit n = 1
+  countBy Limit n = 0
 
   unfoldable pub count : List Instruction → ℕ → State → ℕ
   count code zero σ = 0

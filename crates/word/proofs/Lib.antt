@@ -8,4 +8,6 @@ pub mod Sums
 pub mod SignedOrder
 pub mod WordBytes
 pub mod Differences
+pub mod Quotients
+pub mod Readings
 pub mod Integers
