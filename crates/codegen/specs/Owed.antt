@@ -3,6 +3,7 @@ use Prim.Native.Nat.{ℕ, zero, suc, _+_, _-_, _*_, _^_, _≤_, _<_}
 use mathlib.Core.List.{List, [], _∷_}
 use mathlib.Core.Path.{_≡_}
 use lib.ListN.{length, getD}
+use Rattle.language.specs.Tree as T
 use Rattle.language.specs.Core.{Array, Expr, Args, Stmt, Block, Function, Program}
 use Rattle.language.specs.Core as C
 use Rattle.codegen.specs.Places.{most-locals, most-temporaries}
@@ -74,19 +75,31 @@ module _ (functions : List Function) (elements : ℕ) where
     Fits n (C.call f xs) m = (0 < m) × Callable f xs × FitsAll n xs m
     Fits n (C.unary o e) m = (0 < m) × Fits n e m
     Fits n (C.strict o a b) m = (0 < m) × Fits n a m × Fits n b (m - 1)
-    Fits n (C.and a b) m = (0 < m) × Fits n a (m - 1) × Fits n b m
-    Fits n (C.or a b) m = (0 < m) × Fits n a (m - 1) × Fits n b m
+    Fits n (C.and a b) m = (0 < m) × Tests n a (m - 1) × Fits n b m
+    Fits n (C.or a b) m = (0 < m) × Tests n a (m - 1) × Fits n b m
 
     pub FitsAll : ℕ → Args → ℕ → Type 0
     FitsAll n C.none m = Unit {0}
     FitsAll n (C.more e xs) m = Fits n e m × FitsAll n xs (m - 1)
 
+    -- the same of a condition: `!`, `&&` and `||` take no temporary of their own there, so that a chain of them takes no more than its longest part
+    pub Tests : ℕ → Expr → ℕ → Type 0
+    Tests n (C.number k) m = k < 2 ^ 32
+    Tests n (C.local x) m = x < n
+    Tests n (C.element a i) m = (0 < m) × Inside a × Fits n i m
+    Tests n (C.call f xs) m = (0 < m) × Callable f xs × FitsAll n xs m
+    Tests n (C.unary T.not e) m = Tests n e m
+    Tests n (C.unary T.negate e) m = (0 < m) × Fits n e m
+    Tests n (C.strict o a b) m = (0 < m) × Fits n a m × Fits n b (m - 1)
+    Tests n (C.and a b) m = Tests n a m × Tests n b m
+    Tests n (C.or a b) m = Tests n a m × Tests n b m
+
   unfoldable mutual
     pub Runs : ℕ → Stmt → Type 0
     Runs n (C.put x e) = (x < n) × Fits n e most-temporaries
     Runs n (C.store a i e) = Inside a × Fits n i most-temporaries × Fits n e (most-temporaries - 1)
-    Runs n (C.choose e a b) = Fits n e most-temporaries × RunsAll n a × RunsAll n b
-    Runs n (C.while e b) = Fits n e most-temporaries × RunsAll n b
+    Runs n (C.choose e a b) = Tests n e most-temporaries × RunsAll n a × RunsAll n b
+    Runs n (C.while e b) = Tests n e most-temporaries × RunsAll n b
     Runs n C.leave = Unit {0}
     Runs n (C.give e) = Fits n e most-temporaries
     Runs n (C.emit e) = Fits n e most-temporaries
@@ -96,14 +109,14 @@ module _ (functions : List Function) (elements : ℕ) where
     RunsAll n C.end = Unit {0}
     RunsAll n (C.then s b) = Runs n s × RunsAll n b
 
-  pub record Sound (g : Function) : Type 0 where
+  pub record Proper (g : Function) : Type 0 where
     pub few : g .parameters ≤ most-parameters
     pub locals : g .parameters + g .lets ≤ most-locals
     pub body : RunsAll (g .parameters + g .lets) (g .body)
     pub short : sizeOf (g .body) ≤ most-nodes
 
 pub record Owed (p : Program) : Type 0 where
-  pub each : (f : ℕ) → f < length (p .functions) → Sound (p .functions) (p .elements) (getD (p .functions) f nothing)
+  pub each : (f : ℕ) → f < length (p .functions) → Proper (p .functions) (p .elements) (getD (p .functions) f nothing)
   pub main-known : p .main < length (p .functions)
   pub main-alone : getD (p .functions) (p .main) nothing .parameters ≡ 0
   pub few-elements : p .elements ≤ most-elements
