@@ -1,6 +1,6 @@
 -- The same of statements and blocks: what tokens i to j with d things open around them give. One law for each kind of statement.
-use mathlib.Core.Path.{_≡_, refl}
-use Prim.Native.Nat.{ℕ, zero, suc, _+_, _-_, _*_, _≤_, _<_}
+use mathlib.Core.Path.{_≡_}
+use Prim.Native.Nat.{ℕ, suc, _+_, _≤_, _<_}
 use mathlib.Core.List.{List}
 use native.Mathlib.Omega.{arith}
 use Rattle.language.specs.Grammar.{most-open, expr-level}

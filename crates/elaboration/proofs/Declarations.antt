@@ -5,13 +5,12 @@ use mathlib.Core.List.{List, [], _∷_}
 use mathlib.Core.Option.{Option, none, some}
 use Prim.Native.Nat.{ℕ, zero, suc, _+_, _≤_, _<_}
 use native.Mathlib.Omega.{arith}
-use lib.Dec.{leb}
 use lib.ListN.{length, getD, drop}
 use borrow.Author.Tests.{leb-true, eqb-true}
 use Rattle.word.specs.Choice.{pick}
 use Rattle.language.specs.Tree.{Place, Name, Param, Item, array, function}
 use Rattle.language.specs.Core.{Array}
-use Rattle.language.specs.Rules.{Ruled, found, sameName, Signature, Thing, anArray, aFunction, Global, globalOf, isArray, isFunction, andThen, arrayOf, functionOf, most-elements-in-all, most-parameters, Declared, types, declare, declareAll, main-name, mainOf}
+use Rattle.language.specs.Rules.{found, sameName, Signature, Thing, anArray, aFunction, Global, globalOf, isArray, isFunction, andThen, arrayOf, functionOf, most-elements-in-all, most-parameters, Declared, types, declare, declareAll, main-name, mainOf}
 use Rattle.elaboration.proofs.All.{All, kept, broken, then, anything, needed, so, Each}
 
 -- how many parameters each function has, in order of declaration

@@ -1,130 +1,24 @@
 -- Expressions: what a derivation's tree is elaborated to is good, a law for each line of the grammar.
-use mathlib.Core.Path.{_≡_, refl, sym, ap, _∙_, subst}
+use mathlib.Core.Path.{_≡_}
 use mathlib.Core.Bool.{Bool, true, false}
-use mathlib.Core.List.{List, [], _∷_}
-use mathlib.Core.Option.{Option, none, some}
-use Prim.Native.Nat.{ℕ, zero, suc, _+_, _≤_, _<_}
+use mathlib.Core.List.{List}
+use mathlib.Core.Option.{Option}
+use Prim.Native.Nat.{ℕ, _+_, _≤_, _<_}
 use native.Mathlib.Omega.{arith}
-use lib.ListN.{length, getD}
-use Rattle.word.specs.Choice.{pick}
-use Rattle.language.specs.Tree.{Place, Name, Ty, int, bool, Unary, negate, not, Strict, eq, ne, lt, le, gt, ge, add, sub, mul, div, rem, Binary}
+use Rattle.language.specs.Tree.{Place, Name, int, bool, Unary, negate, not, Binary}
 use Rattle.language.specs.Tree as T
-use Rattle.language.specs.Tokens.{Token, Placed, Sign, In, largest-number}
-use Rattle.language.specs.Grammar.{most-open, expr-level, comp-level, unary-level, Operator, op, operators, Has, IsExpr, IsRest, IsArgs, IsExprs}
+use Rattle.language.specs.Tokens.{Token, Placed, largest-number}
+use Rattle.language.specs.Grammar.{most-open, expr-level, unary-level, Has, IsExpr, IsRest, IsArgs, IsExprs}
 use Rattle.language.specs.Core.{Function}
 use Rattle.language.specs.Core as C
-use Rattle.language.specs.Rules.{Ruled, found, sameName, Global, Local, Signature, localOf, Typed, want, changed, joined, combined, indexed, fit, called, known, expr, exprs, truthOf, most-parameters}
-use Rattle.codegen.specs.Owed.{count, Callable, nothing}
-use Rattle.elaboration.proofs.All.{All, kept, broken, then, anything, needed, so, Each, each-in}
-use Rattle.elaboration.proofs.Declarations.{Callee, AllKnown, array-known, function-known}
+use Rattle.language.specs.Rules.{Global, Local, Typed, changed, combined, indexed, called, known, expr, exprs, truthOf}
+use Rattle.elaboration.proofs.All.{All, kept, then, anything, so, each-in}
+use Rattle.elaboration.proofs.Declarations.{AllKnown, array-known, function-known}
 use Rattle.elaboration.proofs.Measures.{Good, GoodArgs, alone, in-parens, good-number, good-local, good-element, good-call, no-args, more-args, good-unary, good-strict, good-or, good-and}
-
--- how many parameters each function has
-unfoldable pub parametersOf : List Function → List ℕ
-parametersOf [] = []
-parametersOf (g ∷ fs) = g .parameters ∷ parametersOf fs
-
-pub parameters-length : (fs : List Function) → length (parametersOf fs) ≡ length fs
-unfolding parametersOf
-parameters-length [] = refl
-parameters-length (g ∷ fs) = ap suc (parameters-length fs)
-
-pub parameters-at : (fs : List Function) (f : ℕ) → getD (parametersOf fs) f 0 ≡ getD fs f nothing .parameters
-unfolding parametersOf
-parameters-at [] f = refl
-parameters-at (g ∷ fs) zero = refl
-parameters-at (g ∷ fs) (suc f) = parameters-at fs f
-
--- The operators' levels.
-
-data Row (l : ℕ) : Binary → Type 0 where
-  or : l < comp-level → Row l Binary.or
-  and : l < comp-level → Row l Binary.and
-  strict : (o : Strict) → comp-level ≤ l → l < unary-level → Row l (Binary.strict o)
-
-abbrev Levelled : Operator → Type 0
-Levelled r = Row (r .level) (r .means)
-
-compare : (o : Strict) → Row 3 (Binary.strict o)
-compare o = Row.strict o (omega arith) (omega arith)
-
-sum : (o : Strict) → Row 4 (Binary.strict o)
-sum o = Row.strict o (omega arith) (omega arith)
-
-term : (o : Strict) → Row 5 (Binary.strict o)
-term o = Row.strict o (omega arith) (omega arith)
-
-either : Row 1 Binary.or
-either = Row.or (omega arith)
-
-both : Row 2 Binary.and
-both = Row.and (omega arith)
-
-rows : Each Levelled operators
-unfolding operators
-rows =
-    Each.more either (Each.more both
-    (Each.more (compare eq) (Each.more (compare ne) (Each.more (compare lt) (Each.more (compare le) (Each.more (compare gt) (Each.more (compare ge)
-    (Each.more (sum add) (Each.more (sum sub)
-    (Each.more (term mul) (Each.more (term div) (Each.more (term rem) Each.none))))))))))))
-
--- the arguments of a call, without their types
-unfoldable pub argsOf : List Typed → C.Args
-argsOf [] = C.none
-argsOf (e ∷ es) = C.more (e .expr) (argsOf es)
-
-pub wanted : (P : C.Expr → Type 0) (t : Ty) (at : Place) (e : Typed) → P (e .expr) → All P (want t at e)
-unfolding want
-wanted P t at e h = then (needed at) λ _ _. kept h
-
-pub fitted : (P : C.Args → Type 0) (globals : List Global) (at : Place) (es : List Typed) (ts : List Ty) → (count (argsOf es) ≡ length ts → P (argsOf es)) → All P (fit globals at es ts)
-unfolding fit argsOf
-fitted P globals at [] [] h = kept (h refl)
-fitted P globals at [] (t ∷ ts) h = broken
-fitted P globals at (e ∷ es) [] h = broken
-fitted P globals at (e ∷ es) (t ∷ ts) h =
-    then (wanted (λ v. v ≡ e .expr) t at e refl) λ v p.
-    then (fitted (λ vs. P (C.more v vs)) globals at es ts (λ q. rw p (h (ap suc q)))) λ vs k.
-    kept k
-
-both-wanted : (P : C.Expr → Type 0) (t u : Ty) (f : C.Expr → C.Expr → C.Expr) (at : Place) (a b : Typed) → P (f (a .expr) (b .expr)) → All (λ v. P (v .expr)) (joined t u f at a b)
-unfolding joined
-both-wanted P t u f at a b h =
-    then (wanted (λ v. P (f v (b .expr))) t at a h) λ v p.
-    then (wanted (λ w. P (f v w)) t at b p) λ w q.
-    kept q
-
-strict-wanted : (P : C.Expr → Type 0) (o : Strict) (at : Place) (a b : Typed) → P (C.strict o (a .expr) (b .expr)) → All (λ v. P (v .expr)) (combined (Binary.strict o) at a b)
-unfolding combined
-strict-wanted P eq at a b h = both-wanted P (a .type) bool (C.strict eq) at a b h
-strict-wanted P ne at a b h = both-wanted P (a .type) bool (C.strict ne) at a b h
-strict-wanted P lt at a b h = both-wanted P int bool (C.strict lt) at a b h
-strict-wanted P le at a b h = both-wanted P int bool (C.strict le) at a b h
-strict-wanted P gt at a b h = both-wanted P int bool (C.strict gt) at a b h
-strict-wanted P ge at a b h = both-wanted P int bool (C.strict ge) at a b h
-strict-wanted P add at a b h = both-wanted P int int (C.strict add) at a b h
-strict-wanted P sub at a b h = both-wanted P int int (C.strict sub) at a b h
-strict-wanted P mul at a b h = both-wanted P int int (C.strict mul) at a b h
-strict-wanted P div at a b h = both-wanted P int int (C.strict div) at a b h
-strict-wanted P rem at a b h = both-wanted P int int (C.strict rem) at a b h
-
--- a local that is visible has its slot among the n of the function
-abbrev pub Visible : ℕ → List Local → Type 0
-Visible n ls = Each (λ l. l .slot < n) ls
-
-pub local-seen : {n : ℕ} {ls : List Local} → Visible n ls → (at : Place) (x : Name) → All (λ l. l .slot < n) (found (localOf ls x) at)
-unfolding localOf found
-local-seen Each.none at x = broken
-local-seen {n} (Each.more {a = l} {xs = ls} h hs) at x = go (sameName (l .name) x) (local-seen hs at x)
-  where
-    go : (b : Bool) → All (λ k. k .slot < n) (found (localOf ls x) at) → All (λ k. k .slot < n) (found (pick b (some l) (localOf ls x)) at)
-    go true r = kept h
-    go false r = r
-
-module _ (functions : List Function) (elements : ℕ) where
-  -- the call of a known function with the right number of arguments
-  pub callable : {s : Signature} {xs : C.Args} → Callee (parametersOf functions) s → count xs ≡ length (s .parameters) → Callable functions elements (s .number) xs
-  callable {s} c e = record { known = rw (← parameters-length functions) (c .known); arity = e ∙ (sym (c .right) ∙ parameters-at functions (s .number)) }
+use Rattle.elaboration.proofs.Wanted.{wanted, both-wanted, strict-wanted}
+use Rattle.elaboration.proofs.Calls.{parametersOf, argsOf, fitted, callable}
+use Rattle.elaboration.proofs.Slots.{Visible, local-seen}
+use Rattle.elaboration.proofs.Levels.{Row, rows}
 
 module _ (functions : List Function) (elements n : ℕ) where
   abbrev GoodTyped : ℕ → ℕ → ℕ → ℕ → Typed → Type 0

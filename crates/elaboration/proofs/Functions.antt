@@ -1,8 +1,8 @@
 -- Functions: each is proper for the compiler's theorem, and its body fits the flat form.
-use mathlib.Core.Path.{_≡_, refl, ap}
+use mathlib.Core.Path.{_≡_, refl}
 use mathlib.Core.List.{List, [], _∷_}
 use mathlib.Core.Option.{Option}
-use Prim.Native.Nat.{ℕ, zero, suc, _+_, _-_, _≤_, _<_}
+use Prim.Native.Nat.{ℕ, _+_, _-_, _≤_, _<_}
 use native.Mathlib.Omega.{arith}
 use lib.ListN.{length}
 use Rattle.language.specs.Tree.{Place, Ty, Param, Item, array, function}
@@ -15,9 +15,9 @@ use Rattle.flat.specs.Items.{most-operands}
 use Rattle.flat.specs.Words.{most-nesting}
 use Rattle.flat.specs.Fits.{nestsAll, blockOperands}
 use Rattle.codegen.specs.Owed.{Proper, most-nodes}
-use Rattle.elaboration.proofs.All.{All, kept, then, anything, so, Each}
+use Rattle.elaboration.proofs.All.{All, kept, then, anything, Each}
 use Rattle.elaboration.proofs.Declarations.{AllKnown, arities, Few}
-use Rattle.elaboration.proofs.Expressions.{parametersOf}
+use Rattle.elaboration.proofs.Calls.{parametersOf}
 use Rattle.elaboration.proofs.Statements.{Sound, Steps, block-good, parameters-good}
 
 pub record GoodFunction (functions : List Function) (elements : ℕ) (g : Function) : Type 0 where

@@ -1,6 +1,10 @@
 pub mod All
 pub mod Tokens
 pub mod Declarations
+pub mod Levels
+pub mod Wanted
+pub mod Calls
+pub mod Slots
 pub mod Measures
 pub mod Expressions
 pub mod Blocks

@@ -2,8 +2,8 @@
 -- no more nodes than tokens. One law for each kind of expression.
 -- Between one open thing and the next, temporaries wait for seven arguments before the current one and for one operator of each of the five levels;
 -- operands don't wait for `||` and `&&`.
-use mathlib.Core.Path.{_≡_, refl}
-use Prim.Native.Nat.{ℕ, zero, suc, _+_, _-_, _*_, _^_, _≤_, _<_}
+use mathlib.Core.Path.{_≡_}
+use Prim.Native.Nat.{ℕ, _+_, _-_, _*_, _≤_, _<_}
 use mathlib.Core.List.{List}
 use native.Mathlib.Omega.{arith}
 use Rattle.language.specs.Tree.{Unary, Strict, negate, not}

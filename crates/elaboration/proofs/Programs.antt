@@ -1,22 +1,21 @@
 -- Programs: the declarations, `main` and the functions together.
 use mathlib.Core.Path.{_≡_, refl, sym, ap, _∙_, subst}
-use mathlib.Core.List.{List, [], _∷_}
+use mathlib.Core.List.{List}
 use mathlib.Core.Option.{Option}
-use Prim.Native.Nat.{ℕ, zero, suc, _+_, _≤_, _<_}
+use Prim.Native.Nat.{ℕ, _≤_, _<_}
 use native.Mathlib.Omega.{arith}
-use lib.ListN.{length, getD, drop}
+use lib.ListN.{length, getD}
 use Rattle.language.specs.Tree.{Place, Item}
 use Rattle.language.specs.Tokens.{Token, Placed, largest-number}
 use Rattle.language.specs.Grammar.{Has, IsItems}
 use Rattle.language.specs.Core.{Function, Program}
-use Rattle.language.specs.Core as C
-use Rattle.language.specs.Rules.{Declared, nothing-declared, declareAll, mainOf, functionsFrom, elaborate}
+use Rattle.language.specs.Rules.{Declared, nothing-declared, functionsFrom, elaborate, most-elements-in-all}
 use Rattle.flat.specs.Fits as F
 use Rattle.flat.specs.Fits.{functionAt, blockOperands, nestsAll}
 use Rattle.codegen.specs.Owed.{Owed, Runs, size, nothing, most-nodes}
 use Rattle.elaboration.proofs.All.{All, kept, then, also, Each, each-at}
-use Rattle.elaboration.proofs.Declarations.{AllKnown, Main, Declares, arities, Few, main-known, all-known, all-few}
-use Rattle.elaboration.proofs.Expressions.{parametersOf, parameters-length, parameters-at}
+use Rattle.elaboration.proofs.Declarations.{AllKnown, Main, arities, Few, main-known, all-known, all-few}
+use Rattle.elaboration.proofs.Calls.{parametersOf, parameters-length, parameters-at}
 use Rattle.elaboration.proofs.Functions.{GoodFunction, all-parameters, functions-good}
 use Rattle.elaboration.proofs.Locals.{block-few}
 
@@ -42,7 +41,7 @@ module _ (p : Program) (each : Each (GoodFunction (p .functions) (p .elements)) 
     main = omega (arith, at (p .main) .proper .locals);
   }
 
-  owed : {arity : List ℕ} → parametersOf (p .functions) ≡ arity → Main arity (p .main) → p .elements ≤ 16384 → Owed p
+  owed : {arity : List ℕ} → parametersOf (p .functions) ≡ arity → Main arity (p .main) → p .elements ≤ most-elements-in-all → Owed p
   owed q m l = record {
     each = λ f _. at f .proper;
     main-known = subst (λ k. p .main < k) (parameters-length (p .functions)) (subst (λ k. p .main < length k) (sym q) (m .known));
@@ -62,5 +61,7 @@ program-owed tok small inside {is = is} derives end =
   where
     every : (d : Declared) → AllKnown (arities is) (d .elements) (d .globals) → Few is →
         All (λ fs. (functions : List Function) → parametersOf functions ≡ arities is → Each (GoodFunction functions (d .elements)) fs) (functionsFrom (d .globals) is)
-    every d known few = record { holds = λ fs e functions q.
-      functions-good functions (d .elements) (d .globals) (subst (λ a. AllKnown a (d .elements) (d .globals)) (sym q) known) tok small inside derives few .holds fs e }
+    every d known few = record {
+      holds = λ fs e functions q.
+          functions-good functions (d .elements) (d .globals) (subst (λ a. AllKnown a (d .elements) (d .globals)) (sym q) known) tok small inside derives few .holds fs e;
+    }

@@ -1,31 +1,26 @@
 -- Statements: what a derivation's tree is elaborated to is good where the function has all the locals that were counted, a law for each line of the grammar.
-use mathlib.Core.Path.{_≡_, refl}
+use mathlib.Core.Path.{_≡_}
 use mathlib.Core.List.{List, [], _∷_}
 use mathlib.Core.Option.{Option, none, some}
-use Prim.Native.Nat.{ℕ, zero, suc, _+_, _≤_, _<_}
+use Prim.Native.Nat.{ℕ, _+_, _≤_}
 use native.Mathlib.Omega.{arith}
 use lib.ListN.{length}
 use borrow.Author.Tests.{ltb-true}
-use Rattle.language.specs.Tree.{Place, Name, Ty, int, bool, Param}
+use Rattle.language.specs.Tree.{Place, Ty, int, bool, Param}
 use Rattle.language.specs.Tree as T
 use Rattle.language.specs.Tokens.{Token, Placed, largest-number}
 use Rattle.language.specs.Grammar.{most-open, expr-level, Has, IsExpr, IsArgs, IsStmt, IsStmts, IsBlock}
 use Rattle.language.specs.Core.{Function}
 use Rattle.language.specs.Core as C
-use Rattle.language.specs.Rules.{Global, Local, Scope, Typed, want, leaves, gives, expr, exprs, stmt, block, parameters, fit, most-locals}
-use Rattle.elaboration.proofs.All.{All, kept, broken, then, anything, needed, so, given, Each}
+use Rattle.language.specs.Rules.{Global, Scope, Typed, leaves, gives, expr, exprs, stmt, block, parameters, most-locals}
+use Rattle.elaboration.proofs.All.{All, kept, broken, then, anything, needed, so, given}
 use Rattle.elaboration.proofs.Declarations.{AllKnown, array-known, function-known}
 use Rattle.elaboration.proofs.Measures.{Good, GoodArgs}
-use Rattle.elaboration.proofs.Expressions.{parametersOf, argsOf, wanted, fitted, Visible, local-seen, callable, expr-good, args-good}
+use Rattle.elaboration.proofs.Wanted.{wanted}
+use Rattle.elaboration.proofs.Calls.{parametersOf, argsOf, fitted, callable}
+use Rattle.elaboration.proofs.Slots.{Visible, local-seen, wider, newest}
+use Rattle.elaboration.proofs.Expressions.{expr-good, args-good}
 use Rattle.elaboration.proofs.Blocks.{GoodStmt, GoodBlock, good-end, good-then, in-braces, good-put, good-give, good-emit, good-store, good-choose, good-while, good-leave, good-run}
-
-pub wider : {m n : ℕ} {ls : List Local} → m ≤ n → Visible m ls → Visible n ls
-wider l Each.none = Each.none
-wider l (Each.more {a = k} h hs) = Each.more {a = k} (omega (arith, h, l)) (wider l hs)
-
--- a local gets the next slot
-newest : (l : Local) {ls : List Local} → Visible (l .slot) ls → Visible (suc (l .slot)) (l ∷ ls)
-newest l h = Each.more {a = l} (omega arith) (wider (omega arith) h)
 
 -- the locals that are visible are among those counted, and these are not too many
 pub record Sound (globals : List Global) (s : Scope globals) : Type 0 where
@@ -34,7 +29,6 @@ pub record Sound (globals : List Global) (s : Scope globals) : Type 0 where
 
 module _ (functions : List Function) (elements n : ℕ) (globals : List Global) (all-known : AllKnown (parametersOf functions) elements globals)
     (tok : ℕ → Option Placed) (small : (i v : ℕ) → Has tok i (Token.number v) → v ≤ largest-number) (result : Option Ty) where
-
   pub record Step (s : Scope globals) (d i j : ℕ) (c : C.Stmt × Scope globals) : Type 0 where
     pub grows : s .count ≤ c .1 .count
     pub sound : Sound globals (c .1)

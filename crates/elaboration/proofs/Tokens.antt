@@ -1,9 +1,9 @@
 -- A text has no more tokens than bytes, and its numbers are those of document 01 §2.
-use mathlib.Core.Path.{_≡_, refl, sym, ap, subst}
+use mathlib.Core.Path.{_≡_, refl, sym, subst}
 use mathlib.Core.Bool.{Bool, true, false}
-use mathlib.Core.List.{List, [], _∷_, _++_}
+use mathlib.Core.List.{List, [], _∷_}
 use mathlib.Core.Option.{Option, none, some, Option·map}
-use Prim.Native.Nat.{ℕ, zero, suc, _+_, _≤_, _<_}
+use Prim.Native.Nat.{ℕ, zero, suc, _≤_, _<_}
 use Prim.Native.String.{String}
 use native.Mathlib.Omega.{arith}
 use lib.Dec.{ltb}
@@ -11,7 +11,7 @@ use lib.ListN.{length, length-append}
 use borrow.Author.Tests.{ltb-true}
 use Rattle.word.specs.Choice.{both}
 use Rattle.language.specs.Tree.{Place}
-use Rattle.language.specs.Tokens.{Word, Sign, Token, Placed, In, Spells, Reads, Readable, Comment, words, signs, bytes, starts, longest-text, largest-number}
+use Rattle.language.specs.Tokens.{Token, Placed, In, Spells, Reads, Readable, words, signs, bytes, starts, largest-number}
 use Rattle.language.specs.Grammar.{Has, nth}
 use Rattle.elaboration.proofs.All.{Each}
 
