@@ -1,0 +1,12 @@
+pub mod Placement
+pub mod Logic
+pub mod Numbers
+pub mod Frame
+pub mod Macros
+pub mod Elements
+pub mod Activation
+pub mod Operators
+pub mod Calls
+pub mod Expressions
+pub mod Statements
+pub mod Functions
