@@ -1,4 +1,4 @@
 pub mod Fields
-pub mod Immediates
+pub mod ImmediateBits
 pub mod Tables
 pub mod Round

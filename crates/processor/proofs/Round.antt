@@ -19,7 +19,7 @@ use Rattle.processor.specs.declared.Instr.the-variants.{Lui, Auipc, Jal,
 use Rattle.processor.specs.Formats.{bits, low, funct7, rs2, rs1, funct3, rd, opcode, immI, immS, immB, immU, immJ, rWord, iWord, sWord, bWord, uWord, jWord}
 use Rattle.processor.specs.Instructions.{key, find, found, aluKey, condKey, widthKey, operations, immediates, shifts, branches, loads, stores, decodeJalr, decodeBranch, decodeLoad, decodeStore, decodeShift, decodeOpImm, decodeOp, decodeFence, decodeSystem, decodeOf, encodeOf, Extended, Even, Upper, Among, WellFormed}
 use Rattle.processor.proofs.Fields.{Fields, r-fields, r-exact, r-whole, UFields, u-fields, u-whole}
-use Rattle.processor.proofs.Immediates.{thirteen, twenty-one, column, immB-is, imm12-of, imm13-of, imm21-of, immJ-is, Imm12, imm12, Imm13, imm13, Imm21, imm21, column-parts, column-whole}
+use Rattle.processor.proofs.ImmediateBits.{thirteen, twenty-one, column, immB-is, imm12-of, imm13-of, imm21-of, immJ-is, Imm12, imm12, Imm13, imm13, Imm21, imm21, column-parts, column-whole}
 use Rattle.processor.proofs.Tables
 
 -- The word of an instruction is that instruction.
@@ -311,3 +311,11 @@ encode-small (Fence d a n) = r-fields _ _ a 0 d 0x0f .small
 encode-small Ecall = omega arith
 encode-small Ebreak = omega arith
 encode-small Unknown = omega arith
+
+-- The same of an instruction that is known to be the decoded one.
+
+pub says : (w : ℕ) → w < 2 ^ 32 → (r : Instr) → r ≡ decodeOf w → (r ≡ Unknown → ⊥) → Says w r
+says w h r e k = subst (Says w) (sym e) (encode-decode w h (λ u. k (e ∙ u)))
+
+pub only : (w : ℕ) (r : Instr) → r ≡ decodeOf w → (i : Instr) → WellFormed i → encodeOf i ≡ w → r ≡ i
+only w r e i h p = e ∙ ap decodeOf (sym p) ∙ decode-encode i h

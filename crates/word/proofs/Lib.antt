@@ -3,3 +3,11 @@ pub mod Sign
 pub mod Halves
 pub mod Extend
 pub mod ByZero
+pub mod Range
+pub mod Sums
+pub mod SignedOrder
+pub mod WordBytes
+pub mod Differences
+pub mod Quotients
+pub mod Readings
+pub mod Integers
