@@ -2,3 +2,4 @@
 // from its bits, with no Instr between; each function computes what the definitions of the crate `processor` give.
 pub mod registers; // x0 to x31
 pub mod memory; // bytes, halves and words of memory
+pub mod values; // what an operation gives, by the numbers of its row
