@@ -1,2 +1,4 @@
 pub mod Reach
-pub mod Rows
+pub mod Tables
+pub mod Fusing
+pub mod Log

@@ -65,6 +65,7 @@ inside s at e = leb-true _ _ (first-of (leb (at + sizeOf s) memory-bytes) _ (sec
     first-of : (a b : Bool) → both a b ≡ true → a ≡ true
     first-of true b e = refl
     first-of false b e = absurd (subst T (sym e) tt)
+
     second-of : (a b : Bool) → both a b ≡ true → b ≡ true
     second-of true b e = e
     second-of false b e = absurd (subst T (sym e) tt)

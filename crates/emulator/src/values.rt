@@ -69,13 +69,21 @@ pub fn sltu(a: u32, b: u32) -> u32
 pub fn div(a: u32, b: u32) -> u32
     ensures { λ r. ⌜ r ≡ aluOf Alu.Div a b ⌝ }
 {
-    if b == 0 { 4294967295 } else { quotient_signed(a, b) }
+    if b == 0 {
+        4294967295
+    } else {
+        quotient_signed(a, b)
+    }
 }
 
 pub fn divu(a: u32, b: u32) -> u32
     ensures { λ r. ⌜ r ≡ aluOf Alu.Divu a b ⌝ }
 {
-    if b == 0 { 4294967295 } else { quotient_unsigned(a, b) }
+    if b == 0 {
+        4294967295
+    } else {
+        quotient_unsigned(a, b)
+    }
 }
 
 pub fn rem(a: u32, b: u32) -> u32

@@ -1,6 +1,6 @@
 -- `immediate` meets its contract: each arm is its row, and the last has none.
 use Rattle.processor.specs.Execute.{aluOf}
-use Rattle.emulator.proofs.Rows.{no-immediate}
+use Rattle.emulator.proofs.Tables.{no-immediate}
 use Rattle.emulator.proofs.values.immediate.Statement.{statement}
 use Rattle.emulator.proofs.values.immediate.Tie as tie
 use borrow.Author.Needs.{needs}
