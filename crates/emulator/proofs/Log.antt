@@ -25,10 +25,10 @@ one-word room l n x h = record { more = omega arith; fits = omega arith; rest = 
 -- one step after another
 pub then-grows : {room n₀ n₁ n₂ : ℕ} {l₀ l₁ l₂ : List ℕ} → Grows room l₀ n₀ l₁ n₁ → Grows room l₁ n₁ l₂ n₂ → Grows room l₀ n₀ l₂ n₂
 then-grows {room} {n₀} {n₁} {n₂} {l₀} {l₁} {l₂} g h = record {
-    more = omega (arith, g .more, h .more);
-    fits = h .fits;
-    rest = h .rest ∙ beyond n₁ n₂ l₁ l₀ (h .more) (g .rest);
-  }
+  more = omega (arith, g .more, h .more);
+  fits = h .fits;
+  rest = h .rest ∙ beyond n₁ n₂ l₁ l₀ (h .more) (g .rest);
+}
   where
     beyond : (n k : ℕ) (l l′ : List ℕ) → n ≤ k → drop n l ≡ drop n l′ → drop k l ≡ drop k l′
     beyond n k l l′ h e =
