@@ -5,3 +5,4 @@ pub mod memory; // bytes, halves and words of memory
 pub mod values; // what an operation gives, by the numbers of its row
 pub mod rows; // the rows of the table, carried out
 pub mod run; // a step, and a run of them up to a limit
+pub mod image; // an image, from lent buffers to where its run ended
