@@ -1,24 +1,19 @@
 -- The immediates: the number that a word's bits hold, and the bits of that number. First those of 12 bits (I and S), then of 13 (B), then of 21 (J).
-use Prim.Native.Nat.{ℕ, _+_, _-_, _*_, _/_, _%_, _^_, _<_}
-use mathlib.Core.Path.{_≡_, refl, sym, _∙_, ap}
+use Prim.Native.Nat.{ℕ, _+_, _*_, _/_, _%_, _^_, _<_, _≤_}
+use mathlib.Core.Path.{_≡_, sym, _∙_, ap}
 use native.Mathlib.Omega.{arith}
-use native.Mathlib.Nat.{add-comm, mul-assoc, mod-eq-of-lt}
+use native.Mathlib.Nat.{mod-eq-of-lt}
 use lib.Arith.{digits-div, digits-mod}
-use lib.Pow.{mod-pow-add, mod-mod-pow, field, high-ones}
+use lib.Pow.{mod-pow-add, mod-mod-pow, field}
 use Rattle.word.specs.Word.{signExtend}
-use Rattle.processor.specs.Formats.{bits, low, funct7, rs2, rd, immI, immS, immB, immU, immJ}
+use Rattle.word.proofs.Extend.{signExtend-low}
+use Rattle.processor.specs.Formats.{bits, low, funct7, rd, immB, immJ}
 use Rattle.processor.specs.Instructions.{Extended, Even}
 use Rattle.processor.proofs.Fields.{part}
 
--- The n bits that are extended are the low n bits of what they give, for every width n = 32 - j.
-pub low-bits : (j n x : ℕ) → 2 ^ 32 ≡ 2 ^ (j + n) → x < 2 ^ n → signExtend n x % 2 ^ n ≡ x
-unfolding signExtend
-low-bits j n x e h =
-    rw (e, high-ones j n, ← mul-assoc (x / 2 ^ (n - 1)) (2 ^ j - 1) (2 ^ n), add-comm x (x / 2 ^ (n - 1) * (2 ^ j - 1) * 2 ^ n))
-    (digits-mod (x / 2 ^ (n - 1) * (2 ^ j - 1)) h)
-
-pub extended : (j n x : ℕ) → 2 ^ 32 ≡ 2 ^ (j + n) → x < 2 ^ n → Extended n (signExtend n x)
-extended j n x e h = ap (signExtend n) (sym (low-bits j n x e h))
+-- What is extended from n bits is a number that n bits, extended, give.
+pub extended : (n x : ℕ) → 0 < n → n ≤ 32 → x < 2 ^ n → Extended n (signExtend n x)
+extended n x some most h = ap (signExtend n) (sym (signExtend-low n some most x h))
 
 -- j bits from the k-th on, of a number and of its low r + j + k bits
 pub sub-bits : (y r j k : ℕ) → y % 2 ^ (r + j + k) / 2 ^ k % 2 ^ j ≡ y / 2 ^ k % 2 ^ j
@@ -37,11 +32,11 @@ pub record Imm12 (f b n : ℕ) : Type 0 where
 pub imm12 : (f b : ℕ) → f < 128 → b < 32 → Imm12 f b (signExtend 12 (f * 2 ^ 5 + b))
 imm12 f b hf hb =
     let x : ℕ = f * 2 ^ 5 + b in
-    let e : signExtend 12 x % 2 ^ 12 ≡ x = low-bits 20 12 x refl (omega arith) in
+    let e : signExtend 12 x % 2 ^ 12 ≡ x = signExtend-low 12 (omega arith) (omega arith) x (omega arith) in
     record {
       high = sym (sub-bits (signExtend 12 x) 0 7 5) ∙ rw e (rw (digits-div f {m = 32} {r = b} hb) (mod-eq-of-lt hf));
       rest = sym (mod-mod-pow (signExtend 12 x) 7 5) ∙ rw e (digits-mod f {m = 32} {r = b} hb);
-      fine = extended 20 12 x refl (omega arith);
+      fine = extended 12 x (omega arith) (omega arith) (omega arith);
     }
 
 -- 13 bits, the last clear, in 1, 1, 6 and 4
@@ -71,13 +66,13 @@ pub record Imm13 (a b c d n : ℕ) : Type 0 where
 pub imm13 : (a b c d : ℕ) → a < 2 → b < 2 → c < 64 → d < 16 → Imm13 a b c d (signExtend 13 (thirteen a b c d))
 imm13 a b c d ha hb hc hd =
     let x : ℕ = thirteen a b c d in
-    let e : signExtend 13 x % 2 ^ 13 ≡ x = low-bits 19 13 x refl (omega arith) in
+    let e : signExtend 13 x % 2 ^ 13 ≡ x = signExtend-low 13 (omega arith) (omega arith) x (omega arith) in
     record {
       a-is = sym (sub-bits (signExtend 13 x) 0 1 12) ∙ rw e (omega arith);
       b-is = sym (sub-bits (signExtend 13 x) 1 1 11) ∙ rw e (omega arith);
       c-is = sym (sub-bits (signExtend 13 x) 2 6 5) ∙ rw e (omega arith);
       d-is = sym (sub-bits (signExtend 13 x) 8 4 1) ∙ rw e (omega arith);
-      fine = extended 19 13 x refl (omega arith);
+      fine = extended 13 x (omega arith) (omega arith) (omega arith);
       even = sym (mod-mod-pow (signExtend 13 x) 12 1) ∙ rw e (omega arith);
     }
 
@@ -111,13 +106,13 @@ pub record Imm21 (a b c d n : ℕ) : Type 0 where
 pub imm21 : (a b c d : ℕ) → a < 2 → b < 256 → c < 2 → d < 1024 → Imm21 a b c d (signExtend 21 (twenty-one a b c d))
 imm21 a b c d ha hb hc hd =
     let x : ℕ = twenty-one a b c d in
-    let e : signExtend 21 x % 2 ^ 21 ≡ x = low-bits 11 21 x refl (omega arith) in
+    let e : signExtend 21 x % 2 ^ 21 ≡ x = signExtend-low 21 (omega arith) (omega arith) x (omega arith) in
     record {
       a-is = sym (sub-bits (signExtend 21 x) 0 1 20) ∙ rw e (omega arith);
       b-is = sym (sub-bits (signExtend 21 x) 1 8 12) ∙ rw e (omega arith);
       c-is = sym (sub-bits (signExtend 21 x) 9 1 11) ∙ rw e (omega arith);
       d-is = sym (sub-bits (signExtend 21 x) 10 10 1) ∙ rw e (omega arith);
-      fine = extended 11 21 x refl (omega arith);
+      fine = extended 21 x (omega arith) (omega arith) (omega arith);
       even = sym (mod-mod-pow (signExtend 21 x) 20 1) ∙ rw e (omega arith);
     }
 

@@ -1,6 +1,6 @@
 -- Document 03 §3: what each instruction does.
 use Prim.Native.Nat.{ℕ, _+_, _-_, _*_, _/_, _%_, _^_}
-use mathlib.Core.Bool.{Bool, true, false, not}
+use mathlib.Core.Bool.{Bool, not}
 use mathlib.Core.List.{List, [], _∷_, _++_}
 use lib.Dec.{leb, ltb, eqb}
 use lib.ListN.{length, set}
@@ -16,7 +16,7 @@ use Rattle.processor.specs.declared.Width.the-variants.{Byte, Half, Word
 use Rattle.processor.specs.declared.Instr.{Instr}
 use Rattle.processor.specs.declared.Instr.the-variants.{Lui, Auipc, Jal, Jalr, Branch, Load, Store, OpImm, Shift, Op, Fence, Ecall, Ebreak, Unknown}
 use Rattle.processor.specs.declared.Status.{Status}
-use Rattle.processor.specs.declared.Status.the-variants.{Going, Exit, Trap, Fault, Limit}
+use Rattle.processor.specs.declared.Status.the-variants.{Going, Exit, Trap, Fault}
 use Rattle.processor.specs.Machine.{Machine, state, memory-bytes, data-start, setRegister, reg, byteAt, halfAt, wordAt}
 
 -- Arithmetic. "Register shifts use the low 5 bits. mulh, mulhsu, mulhu give the upper 32 bits of the 64-bit product of signed by signed,
