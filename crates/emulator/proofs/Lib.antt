@@ -1,0 +1,5 @@
+pub mod Reach
+pub mod Tables
+pub mod Fusing
+pub mod Log
+pub mod Turns
