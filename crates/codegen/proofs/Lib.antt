@@ -10,3 +10,5 @@ pub mod Calls
 pub mod Expressions
 pub mod Statements
 pub mod Functions
+pub mod Lengths
+pub mod Link
