@@ -12,3 +12,4 @@ pub mod Statements
 pub mod Functions
 pub mod Lengths
 pub mod Link
+pub mod Simulation

@@ -26,7 +26,7 @@ found code e (g ∷ gs) p q c (suc f) h =
     found code e gs (p + length (function (λ _. 0) g)) q (subst (λ (n : ℕ). At code n (functionsFrom e gs) q) k (t .2)) f (omega arith)
 
 module _ (p : Program) where
-  abbrev code : List Instruction
+  abbrev pub code : List Instruction
   code = instructionsOf p
 
   whole : At code 0 (starting (entryOf p (p .main)) ++ (traps ++ functionsFrom (entryOf p) (p .functions))) (length code)
@@ -39,7 +39,7 @@ module _ (p : Program) where
       let t = at-split code 0 (starting (entryOf p (p .main))) (traps ++ functionsFrom (entryOf p) (p .functions)) (length code) whole in
       subst (λ (n : ℕ). At code 0 (starting (entryOf p (p .main))) n) (let k = at-len code 0 (starting (entryOf p (p .main))) (t .0) (t .1) in k) (t .1)
 
-  rest : At code 6 (traps ++ functionsFrom (entryOf p) (p .functions)) (length code)
+  pub rest : At code 6 (traps ++ functionsFrom (entryOf p) (p .functions)) (length code)
   rest =
       let t = at-split code 0 (starting (entryOf p (p .main))) (traps ++ functionsFrom (entryOf p) (p .functions)) (length code) whole in
       subst (λ (n : ℕ). At code n (traps ++ functionsFrom (entryOf p) (p .functions)) (length code)) (at-len code 0 (starting (entryOf p (p .main))) (t .0) (t .1)) (t .2)
@@ -51,7 +51,7 @@ module _ (p : Program) where
       (subst (λ (n : ℕ). At code n (functionsFrom (entryOf p) (p .functions)) (length code)) (at-len code 6 traps (t .0) (t .1)) (t .2)) f h
 
   -- the program's code, for a log with this room
-  pub linked : (room : ℕ) → Owed p → Linked
+  abbrev pub linked : (room : ℕ) → Owed p → Linked
   linked room O = record {
     setting = record { room = room; code = code; elements = p .elements }; entry = entryOf p; functions = p .functions; few = O .few-elements;
     trap-1 = (rest .0, (rest .1 .0, (rest .1 .1 .0, refl)));
