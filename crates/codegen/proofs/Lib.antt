@@ -13,3 +13,4 @@ pub mod Functions
 pub mod Lengths
 pub mod Link
 pub mod Simulation
+pub mod Ranges
