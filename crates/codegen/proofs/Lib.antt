@@ -14,3 +14,4 @@ pub mod Lengths
 pub mod Link
 pub mod Simulation
 pub mod Ranges
+pub mod Reaches
