@@ -15,3 +15,4 @@ pub mod Link
 pub mod Simulation
 pub mod Ranges
 pub mod Reaches
+pub mod Encodes
