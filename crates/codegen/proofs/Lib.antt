@@ -16,3 +16,4 @@ pub mod Simulation
 pub mod Ranges
 pub mod Reaches
 pub mod Encodes
+pub mod Whole
