@@ -30,18 +30,19 @@ stopFor finished = some Exit
 stopFor (stopped (trapped t)) = some (Trap t)
 stopFor (stopped outOfFuel) = none
 
--- a log of which the other is the beginning, or the whole
+-- the log l is the beginning of the log m, or all of it
 abbrev pub Begins : List ℕ → List ℕ → Type 0
 Begins l m = (rest : List ℕ) × (l ++ rest ≡ m)
 
-abbrev pub Words : List ℕ → Type 0
-Words [] = Unit {0}
-Words (w ∷ ws) = (w < 2 ^ 32) × Words ws
+-- each number of a list is below this one
+abbrev pub Below : ℕ → List ℕ → Type 0
+Below n [] = Unit {0}
+Below n (w ∷ ws) = (w < n) × Below n ws
 
 -- the initial contents of all arrays of a program: one word per element
 pub record Input (p : Program) (arrays : List ℕ) : Type 0 where
   pub one-each : length arrays ≡ p .elements
-  pub words : Words arrays
+  pub words : Below (2 ^ 32) arrays
 
 module _ (costs : Costs) (p : Program) (image : List ℕ) where
   -- the source's run, and the fuel that it used
@@ -62,7 +63,8 @@ module _ (costs : Costs) (p : Program) (image : List ℕ) where
     pub arrays : arraysOf (4 * p .elements) (m .machine) ≡ r .world .arrays
 
   pub record Keeps : Type 0 where
-    -- the image is one that document 03 §5 lets run
+    -- the image is one that document 03 §5 lets run: bytes, whole words of them, and not too many
+    pub bytes : Below 256 image
     pub runnable : fits longest-code (length image) ≡ true
     -- A source run that finishes, or traps with t: under every limit that is large enough the machine exits, or traps with t, with the same log and
     -- arrays, after at most K steps for each unit of fuel used and K0 besides.

@@ -1,4 +1,4 @@
--- Document 01 §6 and §7: its vectors, computed. Trees are written out here, with 0 for every place; from the texts themselves they are run by programs.
+-- Document 01 §6 and §7: its vectors, computed. Trees are written out here, most of them with 0 for every place.
 use mathlib.Core.Bool.{Bool, true, false}
 use mathlib.Core.List.{List, [], _∷_, _++_}
 use mathlib.Core.Option.{Option, none, some}
@@ -17,33 +17,33 @@ use Rattle.language.specs.Meaning.{World, Stop, trapped, outOfFuel, Outc
 -- Writing trees
 
 infix 30 _⟨_⟩_
-abbrev var : String → Expr
+abbrev pub var : String → Expr
 var x = name 0 (bytes x)
 
-abbrev _⟨_⟩_ : Expr → Strict → Expr → Expr
+abbrev pub _⟨_⟩_ : Expr → Strict → Expr → Expr
 _⟨_⟩_ x o y = binary 0 (strict o) x y
 
-abbrev minus : ℕ → Expr
+abbrev pub minus : ℕ → Expr
 minus n = unary 0 negate (number n)
 
-abbrev body : List Stmt → Block
+abbrev pub body : List Stmt → Block
 body [] = end
 body (s ∷ ss) = then s (body ss)
 
-abbrev one : Expr → T.Args
+abbrev pub one : Expr → T.Args
 one e = T.more e T.none
 
-abbrev two : Expr → Expr → T.Args
+abbrev pub two : Expr → Expr → T.Args
 two x y = T.more x (T.more y T.none)
 
-abbrev param : String → Param
+abbrev pub param : String → Param
 param x = record { place = 0; name = bytes x; type = int }
 
-abbrev emits : List Expr → List Stmt
+abbrev pub emits : List Expr → List Stmt
 emits [] = []
 emits (e ∷ es) = emit 0 e ∷ emits es
 
-abbrev main : List Stmt → Item
+abbrev pub main : List Stmt → Item
 main ss = function 0 main-name [] none (body ss)
 
 -- Running them: the outcome, the log, the arrays, and how much of 1,000 units of fuel was used, with room for 10 in the log
@@ -54,14 +54,14 @@ pub record Ran : Type 0 where
   pub arrays : List ℕ
   pub used : ℕ
 
-abbrev ran : Run → Ran
+abbrev pub ran : Run → Ran
 ran r = record { outcome = r .outcome; log = r .world .log; arrays = r .world .arrays; used = 1000 - r .world .fuel }
 
-abbrev runs : Ruled Program → List ℕ → Option Ran
+abbrev pub runs : Ruled Program → List ℕ → Option Ran
 runs (breaks p) xs = none
 runs (keeps p) xs = some (ran (runOf p xs 1000 10))
 
-abbrev ends : Outcome → List ℕ → List ℕ → ℕ → Option Ran
+abbrev pub ends : Outcome → List ℕ → List ℕ → ℕ → Option Ran
 ends o l xs u = some (record { outcome = o; log = l; arrays = xs; used = u })
 
 -- Text G: "finishes with log 6, 6, 5; fuel 97"
@@ -133,7 +133,7 @@ down =
     (body (give 0 (number 1 ⟨ add ⟩ call 0 (bytes "f") (one (var "n" ⟨ sub ⟩ number 1))) ∷ []))
     ∷ []))
 
--- Answer 2
+-- The vectors
 
 pub record Vectors : Type 0 where
   pub G-runs : runs (elaborate G 0) [] ≡ ends finished (6 ∷ 6 ∷ 5 ∷ []) [] 97
@@ -165,6 +165,7 @@ pub record Vectors : Type 0 where
   pub Z-one : runs (elaborate Z 0) (10 ∷ 70 ∷ 30 ∷ 5 ∷ 0 ∷ 0 ∷ []) ≡ ends finished (1 ∷ []) (10 ∷ 70 ∷ 30 ∷ 5 ∷ 1 ∷ 0 ∷ []) 101
   pub Z-two : runs (elaborate Z 0) (99 ∷ 20 ∷ -1 ∷ 5 ∷ 0 ∷ 0 ∷ []) ≡ ends finished (0 ∷ 2 ∷ 100 ∷ []) (99 ∷ 20 ∷ -1 ∷ 5 ∷ 1 ∷ 1 ∷ []) 108
   pub row-nothing : runs (elaborate (main [] ∷ []) 0) [] ≡ ends finished [] [] 0
+  pub row-emit : runs (elaborate (main (emits (number 1 ∷ [])) ∷ []) 0) [] ≡ ends finished (1 ∷ []) [] 2
   pub row-trap-1 : runs (elaborate (main (emits (number 1 ∷ (number 7 ⟨ div ⟩ (number 3 ⟨ sub ⟩ number 3)) ∷ number 2 ∷ [])) ∷ []) 0) []
       ≡ ends (stopped (trapped 1)) (1 ∷ []) [] 8
   pub row-division : runs (elaborate
@@ -175,7 +176,14 @@ pub record Vectors : Type 0 where
       ∷ (number 7 ⟨ rem ⟩ minus 2) ∷ unary 0 negate (var "m") ∷ []))
       ∷ []) 0) []
       ≡ ends finished (least ∷ 0 ∷ -3 ∷ -1 ∷ -3 ∷ 1 ∷ least ∷ []) [] 38
-  -- "evaluating the right side first" would log 3, 2, 1, 7
+  pub row-wraps : runs (elaborate
+      (main (emits ((number 2147483647 ⟨ add ⟩ number 1) ∷ (number 65536 ⟨ mul ⟩ number 65536) ∷ (number 65537 ⟨ mul ⟩ number 65537) ∷ []))
+      ∷ []) 0) [] ≡ ends finished (least ∷ 0 ∷ 131073 ∷ []) [] 12
+  pub row-trap-2 : runs (elaborate
+      (array 0 (bytes "a") 3
+      ∷ main (store 0 (bytes "a") (number 2) (number 5) ∷ emits (element 0 (bytes "a") (number 2) ∷ element 0 (bytes "a") (number 3) ∷ []))
+      ∷ []) 0) (0 ∷ 0 ∷ 0 ∷ []) ≡ ends (stopped (trapped 2)) (5 ∷ []) (0 ∷ 0 ∷ 5 ∷ []) 9
+  -- "Evaluating the right side first" would log 3, 2, 1, 7
   pub row-order : runs (elaborate (echo ∷ main (emit 0 (f 1 ⟨ add ⟩ (f 2 ⟨ mul ⟩ f 3)) ∷ []) ∷ []) 0) [] ≡ ends finished (1 ∷ 2 ∷ 3 ∷ 7 ∷ []) [] 21
   -- "testing the index before the value is computed" would trap 2
   pub row-index-last : runs (elaborate
@@ -194,7 +202,15 @@ pub record Vectors : Type 0 where
   pub ordered-truths : elaborate (main (when 1 (binary 2 (strict lt) (truth true) (truth false)) (body []) ∷ []) ∷ []) 0 ≡ breaks 2
   -- `fn f(): int { while true { return 1; } }`
   pub falls-off : elaborate (function 4 (bytes "f") [] (some int) (body (while 1 (truth true) (body (give 2 (number 1) ∷ [])) ∷ [])) ∷ main [] ∷ []) 0 ≡ breaks 4
+  -- `fn f(): int { if true { return 1; } }`
+  pub falls-through : elaborate (function 4 (bytes "f") [] (some int) (body (when 1 (truth true) (body (give 2 (number 1) ∷ [])) ∷ [])) ∷ main [] ∷ []) 0 ≡ breaks 4
+  -- an array used without index
+  pub no-index : elaborate (array 1 (bytes "a") 2 ∷ main (emit 2 (name 3 (bytes "a")) ∷ []) ∷ []) 0 ≡ breaks 3
+  -- `true == false` as a condition
+  pub equal-truths : runs (elaborate (main (when 0 (binary 0 (strict eq) (truth true) (truth false)) (body []) ∷ []) ∷ []) 0) [] ≡ ends finished [] [] 4
+  -- `emit --5;`
+  pub minus-minus : runs (elaborate (main (emits (unary 0 negate (minus 5) ∷ [])) ∷ []) 0) [] ≡ ends finished (5 ∷ []) [] 4
 
 pub vectors : Vectors
 unfolding bytes _>>=_ need found sameName globalOf localOf arrayOf functionOf declareItem declareAll mainOf want changed joined combined indexed fit called known expr exprs fresh leaves gives stmt blockOf parameters isReturn endsInReturn functionFrom functionsFrom elaborate runOf bind begin apply operate read write fetch assignSlot rounds append eval evals exec block back callAt addW subW mulW negW negative magnitude ltS quotS remS bitOf
-vectors = record { G-runs = refl; G-core = refl; Z-quiet = refl; Z-one = refl; Z-two = refl; row-nothing = refl; row-trap-1 = refl; row-division = refl; row-order = refl; row-index-last = refl; row-62 = refl; row-63 = refl; row-endless = refl; no-main = refl; let-of-itself = refl; hiding = refl; ordered-truths = refl; falls-off = refl }
+vectors = record { G-runs = refl; G-core = refl; Z-quiet = refl; Z-one = refl; Z-two = refl; row-nothing = refl; row-emit = refl; row-trap-1 = refl; row-division = refl; row-wraps = refl; row-trap-2 = refl; row-order = refl; row-index-last = refl; row-62 = refl; row-63 = refl; row-endless = refl; no-main = refl; let-of-itself = refl; hiding = refl; ordered-truths = refl; falls-off = refl; falls-through = refl; no-index = refl; equal-truths = refl; minus-minus = refl }

@@ -6,3 +6,4 @@ pub mod Rules
 pub mod Meaning
 pub mod Text
 pub mod Examples
+pub mod Edges

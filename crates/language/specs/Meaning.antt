@@ -69,7 +69,7 @@ abbrev pub begin-on : ℕ → Act (Unit {0})
 begin-on zero ls w = stops outOfFuel w
 begin-on (suc f) ls w = goes tt ls (record { fuel = f; log = w .log; arrays = w .arrays })
 
--- "each statement and each node of an expression costs 1 when it begins; if something is to begin and none is left, the run is out of fuel"
+-- "each statement and each node of an expression costs 1 when it begins"; "If something is to begin and none is left, the run is out of fuel."
 unfoldable pub begin : Act (Unit {0})
 begin ls w = begin-on (w .fuel) ls w
 

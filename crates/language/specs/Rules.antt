@@ -1,6 +1,7 @@
--- Document 01 §4: a tree that keeps every rule becomes a core program; any other is refused, at the place of a token.
+-- Document 01 §4: a tree that keeps every rule becomes a core program; any other is refused, at a place in the text.
 -- Which token: rules are looked at in this order, and the first that is broken counts. Declarations, from the first to the last; then `main`;
--- then functions, from the first to the last, each in the order of its text, and of a statement or expression first its parts.
+-- then functions, from the first to the last, each in the order of its text: of an expression or a statement first the expressions in it, then
+-- its own rules, then its blocks.
 -- The place is that of the token which the tree's node carries; the text's end where there is no `main`.
 use mathlib.Core.Bool.{Bool, true, false}
 use mathlib.Core.List.{List, [], _∷_}
@@ -291,7 +292,7 @@ module _ (globals : List Global) where
     need (absent (globalOf globals x)) at
     need (absent (localOf locals x)) at
 
-  -- "A function with a result type returns that type everywhere. Others only use `return;`."
+  -- "A function with a result type returns that type everywhere"; "Others only use `return;`."
   unfoldable pub leaves : Option Ty → Place → Ruled C.Stmt
   leaves none at = keeps C.leave
   leaves (some t) at = breaks at
@@ -303,7 +304,8 @@ module _ (globals : List Global) where
     keeps (C.give v)
 
   -- Statements, with the locals that are visible and how many parameters and lets there were before.
-  -- "A local name is visible from the end of its `let` to the end of the block; a parameter, in the whole body. Two blocks side by side may use one name twice."
+  -- "A local name is visible from the end of its `let` to the end of the block; a parameter, in the whole body."
+  -- "Two blocks side by side may use one name twice."
   pub record Scope : Type 0 where
     pub visible : List Local
     pub count : ℕ

@@ -1,5 +1,5 @@
 -- Document 01 §3: the tree of a program. Parentheses leave no trace in it.
--- A node carries the place of one token, where a broken rule is reported: a sign's for an operator, a name's for what is named,
+-- A node that can break a rule carries the place of one token, where that is reported: a sign's for an operator, a name's for what is named,
 -- the first word's for a statement that begins with `if`, `while`, `return` or `emit`.
 use mathlib.Core.Bool.{Bool}
 use mathlib.Core.List.{List}

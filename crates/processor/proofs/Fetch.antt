@@ -1,9 +1,9 @@
 -- A step at a word that the encoder made carries its instruction out.
 use Prim.Native.Nat.{ℕ}
-use mathlib.Core.Path.{_≡_, refl}
+use mathlib.Core.Path.{_≡_}
 use mathlib.Core.Bool.{true}
 use Rattle.processor.specs.declared.Instr.{Instr}
-use Rattle.processor.specs.Instructions.{decodeOf, encodeOf, WellFormed}
+use Rattle.processor.specs.Instructions.{encodeOf, WellFormed}
 use Rattle.processor.specs.Machine.{Machine, wordAt}
 use Rattle.processor.specs.Execute.{execOf}
 use Rattle.processor.specs.Run.{inCode, stepOf}

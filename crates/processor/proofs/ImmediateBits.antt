@@ -1,13 +1,13 @@
 -- The immediates: the number that a word's bits hold, and the bits of that number. First those of 12 bits (I and S), then of 13 (B), then of 21 (J).
-use Prim.Native.Nat.{ℕ, _+_, _-_, _*_, _/_, _%_, _^_, _<_, _≤_}
-use mathlib.Core.Path.{_≡_, refl, sym, _∙_, ap}
+use Prim.Native.Nat.{ℕ, _+_, _*_, _/_, _%_, _^_, _<_, _≤_}
+use mathlib.Core.Path.{_≡_, sym, _∙_, ap}
 use native.Mathlib.Omega.{arith}
 use native.Mathlib.Nat.{mod-eq-of-lt}
 use lib.Arith.{digits-div, digits-mod}
 use lib.Pow.{mod-pow-add, mod-mod-pow, field}
 use Rattle.word.specs.Word.{signExtend}
 use Rattle.word.proofs.Extend.{signExtend-low}
-use Rattle.processor.specs.Formats.{bits, low, funct7, rs2, rd, immI, immS, immB, immU, immJ}
+use Rattle.processor.specs.Formats.{bits, low, funct7, rd, immB, immJ}
 use Rattle.processor.specs.Instructions.{Extended, Even}
 use Rattle.processor.proofs.Fields.{part}
 

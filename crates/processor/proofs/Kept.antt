@@ -1,22 +1,20 @@
 -- What no step and no run changes: memory below 0x100000 (so code can't change), how long memory and registers are, and what was logged.
-use Prim.Native.Nat.{ℕ, zero, suc, _+_, _*_, _/_, _%_, _<_, _≤_}
+use Prim.Native.Nat.{ℕ, _+_, _%_, _<_, _≤_}
 use mathlib.Core.Path.{_≡_, refl, sym, _∙_, ap, subst}
 use mathlib.Core.Bool.{Bool, true, false}
 use mathlib.Core.List.{List, [], _∷_, _++_, append-nil, append-assoc}
 use native.Mathlib.Omega.{arith}
 use lib.Dec.{leb, eqb, T}
-use lib.ListN.{length, getD, set, length-set, length-append}
-use lib.Seq.{getD-set-other}
+use lib.ListN.{length, length-append}
 use borrow.Author.Tests.{leb-true, eqb-true}
-use Rattle.word.specs.Choice.{pick, both}
-use Rattle.word.specs.Bytes.{byte₀, byte₁, byte₂, byte₃}
+use Rattle.word.specs.Choice.{both}
 use Rattle.processor.specs.declared.Width.{Width}
-use Rattle.processor.specs.declared.Width.the-variants.{Byte, Half, Word, ByteU, HalfU}
 use Rattle.processor.specs.declared.Status.{Status}
 use Rattle.processor.specs.declared.Status.the-variants.{Limit}
-use Rattle.processor.specs.Machine.{Machine, data-start, memory-bytes, byteAt, setRegister}
-use Rattle.processor.specs.Execute.{reaches, sizeOf, writeAt, halt}
+use Rattle.processor.specs.Machine.{Machine, data-start, memory-bytes, byteAt, wordAt}
+use Rattle.processor.specs.Execute.{reaches, sizeOf, halt}
 use Rattle.processor.specs.Run.{stepOf, runOf}
+use Rattle.processor.proofs.Memory.{setRegister-length, write-length, byte-other, word-by}
 use Rattle.processor.proofs.Ways.{Ways, step-by, run-by}
 
 -- Where a load or store that does not fault reaches.
@@ -36,44 +34,6 @@ reached s at e =
     let p = both-true (eqb (at % sizeOf s) 0) _ e in
     let q = both-true (leb (at + sizeOf s) memory-bytes) _ (p .1) in
     record { aligned = eqb-true _ _ (p .0); within = leb-true _ _ (q .0); above = leb-true _ _ (q .1) }
-
--- A write leaves the bytes before it, and the memory's length.
-
-module _ (j : ℕ) where
-  before : (m : List ℕ) (i v : ℕ) → j < i → byteAt (set m i v) j ≡ byteAt m j
-  before m i v h = getD-set-other m i j v 0 (omega arith)
-
-  before-half : (m : List ℕ) (i v w : ℕ) → j < i → byteAt (set (set m i v) (i + 1) w) j ≡ byteAt m j
-  before-half m i v w h = before (set m i v) (i + 1) w (omega arith) ∙ before m i v h
-
-  pub write-before : (s : Width) (m : List ℕ) (i v : ℕ) → j < i → byteAt (writeAt s m i v) j ≡ byteAt m j
-  unfolding writeAt
-  write-before Byte m i v h = before m i (byte₀ v) h
-  write-before ByteU m i v h = before m i (byte₀ v) h
-  write-before Half m i v h = before-half m i (byte₀ v) (byte₁ v) h
-  write-before HalfU m i v h = before-half m i (byte₀ v) (byte₁ v) h
-  write-before Word m i v h =
-      before (set (writeAt Half m i v) (i + 2) (byte₂ v)) (i + 3) (byte₃ v) (omega arith)
-      ∙ before (writeAt Half m i v) (i + 2) (byte₂ v) (omega arith) ∙ before-half m i (byte₀ v) (byte₁ v) h
-
-pub write-length : (s : Width) (m : List ℕ) (i v : ℕ) → length (writeAt s m i v) ≡ length m
-unfolding writeAt
-write-length Byte m i v = length-set m i (byte₀ v)
-write-length ByteU m i v = length-set m i (byte₀ v)
-write-length Half m i v = length-set (set m i (byte₀ v)) (i + 1) (byte₁ v) ∙ length-set m i (byte₀ v)
-write-length HalfU m i v = length-set (set m i (byte₀ v)) (i + 1) (byte₁ v) ∙ length-set m i (byte₀ v)
-write-length Word m i v =
-    length-set (set (set (set m i (byte₀ v)) (i + 1) (byte₁ v)) (i + 2) (byte₂ v)) (i + 3) (byte₃ v)
-    ∙ length-set (set (set m i (byte₀ v)) (i + 1) (byte₁ v)) (i + 2) (byte₂ v)
-    ∙ length-set (set m i (byte₀ v)) (i + 1) (byte₁ v) ∙ length-set m i (byte₀ v)
-
-pub setRegister-length : (registers : List ℕ) (r v : ℕ) → length (setRegister registers r v) ≡ length registers
-unfolding setRegister
-setRegister-length registers r v = go (eqb r 0)
-  where
-    go : (x : Bool) → length (pick x registers (set registers r v)) ≡ length registers
-    go true = refl
-    go false = length-set registers r v
 
 -- A list with more after it.
 pub record Extends (l l′ : List ℕ) : Type 0 where
@@ -112,7 +72,7 @@ step-keeps size room m = step-by room m (Keeps m) ways size
       going = λ p. record { code = λ j h. refl; memory-length = refl; registers-length = refl; log = extends-refl (m .log) };
       writing = λ rd v p. record { code = λ j h. refl; memory-length = refl; registers-length = setRegister-length (m .registers) rd v; log = extends-refl (m .log) };
       storing = λ s at v p e. record {
-        code = λ j h. let above = reached s at e .above in write-before j s (m .memory) at v (omega arith);
+        code = λ j h. let above = reached s at e .above in byte-other (m .memory) at v s j (λ k l q. omega arith);
         memory-length = write-length s (m .memory) at v;
         registers-length = refl;
         log = extends-refl (m .log);
@@ -125,6 +85,10 @@ pub run-keeps : (size room n : ℕ) (m : Machine) (k : ℕ) → Keeps m (runOf s
 run-keeps size room n m k =
     run-by (Keeps m) size room (λ x h. keeps-trans m x (stepOf size room x) h (step-keeps size room x)) (λ x h. keeps-trans m x (halt x Limit) h (keeps-halt x Limit)) n m k
     (record { code = λ j h. refl; memory-length = refl; registers-length = refl; log = extends-refl (m .log) })
+
+-- A word below 0x100000 stays.
+pub word-kept : (m n : Machine) (p : ℕ) → Keeps m n → p + 4 ≤ data-start → wordAt (n .memory) p ≡ wordAt (m .memory) p
+word-kept m n p K h = word-by (n .memory) (m .memory) p (λ k l. K .code (p + k) (omega arith))
 
 -- The log stays within its room.
 

@@ -2,7 +2,11 @@ pub mod Fields
 pub mod ImmediateBits
 pub mod Tables
 pub mod Round
+pub mod Memory
 pub mod Ways
 pub mod Kept
+pub mod Sized
 pub mod Onward
 pub mod Fetch
+pub mod Start
+pub mod Laws

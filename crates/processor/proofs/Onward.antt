@@ -1,6 +1,6 @@
 -- "A run with limit a, gone on with for b more, is the run with limit a + b" (document 03 §4), and how many steps a run counts.
 use Prim.Native.Nat.{ℕ, zero, suc, _+_, _≤_}
-use mathlib.Core.Path.{_≡_, refl, sym, _∙_, ap, subst}
+use mathlib.Core.Path.{_≡_, refl, sym, ap, subst}
 use mathlib.Core.Bool.{Bool, true, false}
 use native.Mathlib.Omega.{arith}
 use native.Mathlib.Nat.{zero-add, suc-add}
@@ -9,7 +9,7 @@ use Rattle.word.specs.Choice.{pick}
 use Rattle.processor.specs.declared.Status.{Status}
 use Rattle.processor.specs.declared.Status.the-variants.{Going, Exit, Trap, Fault, Limit}
 use Rattle.processor.specs.Machine.{Machine, state}
-use Rattle.processor.specs.Execute.{goto, halt}
+use Rattle.processor.specs.Execute.{halt}
 use Rattle.processor.specs.Run.{stepOf, isGoing, counted, Run, runOf, resumed, onward}
 use Rattle.processor.proofs.Ways.{Stops, Ways, step-by}
 

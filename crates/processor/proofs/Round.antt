@@ -1,5 +1,5 @@
 -- decodeOf and encodeOf undo one another.
-use Prim.Native.Nat.{ℕ, _+_, _-_, _*_, _/_, _%_, _^_, _<_}
+use Prim.Native.Nat.{ℕ, _+_, _*_, _/_, _%_, _^_, _<_}
 use mathlib.Core.Path.{_≡_, refl, sym, _∙_, ap, subst}
 use mathlib.Core.Bool.{Bool, true, false}
 use mathlib.Core.Option.{Option, none, some}
@@ -7,19 +7,14 @@ use native.Mathlib.Omega.{arith}
 use native.Mathlib.Nat.{mod-eq-of-lt}
 use lib.Dec.{eqb}
 use borrow.Author.Tests.{eqb-true}
-use lib.Pow.{mod-pow-add}
 use lib.Arith.{digits-div, digits-mod}
 use Rattle.word.specs.Choice.{pick}
-use Rattle.word.specs.Word.{signExtend}
-use Rattle.processor.specs.declared.Alu.{Alu}
-use Rattle.processor.specs.declared.Cond.{Cond}
-use Rattle.processor.specs.declared.Width.{Width}
 use Rattle.processor.specs.declared.Instr.{Instr}
 use Rattle.processor.specs.declared.Instr.the-variants.{Lui, Auipc, Jal, Jalr, Branch, Load, Store, OpImm, Shift, Op, Fence, Ecall, Ebreak, Unknown}
 use Rattle.processor.specs.Formats.{bits, low, funct7, rs2, rs1, funct3, rd, opcode, immI, immS, immB, immU, immJ, rWord, iWord, sWord, bWord, uWord, jWord}
-use Rattle.processor.specs.Instructions.{key, find, found, aluKey, condKey, widthKey, operations, immediates, shifts, branches, loads, stores, decodeJalr, decodeBranch, decodeLoad, decodeStore, decodeShift, decodeOpImm, decodeOp, decodeFence, decodeSystem, decodeOf, encodeOf, Extended, Even, Upper, Among, WellFormed}
+use Rattle.processor.specs.Instructions.{key, find, found, aluKey, condKey, widthKey, operations, immediates, shifts, branches, loads, stores, decodeJalr, decodeBranch, decodeLoad, decodeStore, decodeShift, decodeOpImm, decodeOp, decodeFence, decodeSystem, decodeOf, encodeOf, Extended, Even, Upper, WellFormed}
 use Rattle.processor.proofs.Fields.{Fields, r-fields, r-exact, r-whole, UFields, u-fields, u-whole}
-use Rattle.processor.proofs.ImmediateBits.{thirteen, twenty-one, column, immB-is, imm12-of, imm13-of, imm21-of, immJ-is, Imm12, imm12, Imm13, imm13, Imm21, imm21, column-parts, column-whole}
+use Rattle.processor.proofs.ImmediateBits.{column, immB-is, imm12-of, imm13-of, imm21-of, immJ-is, Imm12, imm12, Imm13, imm13, Imm21, imm21, column-parts, column-whole}
 use Rattle.processor.proofs.Tables
 
 -- The word of an instruction is that instruction.
@@ -216,7 +211,7 @@ module _ (w : ℕ) (fits : w < 2 ^ 32) where
   jalr-row : 0x67 ≡ opcode w → Known (decodeJalr w) → Says w (decodeJalr w)
   unfolding decodeJalr encodeOf WellFormed
   jalr-row o h =
-      by-test w (eqb (funct3 w) 0) _ Unknown
+      by-test w _ _ Unknown
       (λ t k. record { word = i-word 0 0x67 (sym (eqb-true _ _ t)) o; fine = (omega arith, omega arith, i-is .fine) })
       (not-known w) h
 
@@ -265,15 +260,15 @@ module _ (w : ℕ) (fits : w < 2 ^ 32) where
   fence-row : 0x0f ≡ opcode w → Known (decodeFence w) → Says w (decodeFence w)
   unfolding decodeFence encodeOf WellFormed
   fence-row o h =
-      by-test w (eqb (funct3 w) 0) _ Unknown
+      by-test w _ _ Unknown
       (λ t k. record { word = i-word 0 0x0f (sym (eqb-true _ _ t)) o; fine = (omega arith, omega arith, i-is .fine) })
       (not-known w) h
 
   system-row : Known (decodeSystem w) → Says w (decodeSystem w)
   unfolding decodeSystem encodeOf WellFormed
   system-row h =
-      by-test w (eqb w 0x00000073) Ecall _ (λ t k. record { word = sym (eqb-true _ _ t); fine = tt })
-      (by-test w (eqb w 0x00100073) Ebreak Unknown (λ t k. record { word = sym (eqb-true _ _ t); fine = tt }) (not-known w)) h
+      by-test w _ Ecall _ (λ t k. record { word = sym (eqb-true _ _ t); fine = tt })
+      (by-test w _ Ebreak Unknown (λ t k. record { word = sym (eqb-true _ _ t); fine = tt }) (not-known w)) h
 
   by-opcode : (o : ℕ) (i j : Instr) → (o ≡ opcode w → Known i → Says w i) → (Known j → Says w j) → Known (pick (eqb (opcode w) o) i j) → Says w (pick (eqb (opcode w) o) i j)
   by-opcode o i j f g h = by-test w (eqb (opcode w) o) i j (λ e. f (sym (eqb-true _ _ e))) g h

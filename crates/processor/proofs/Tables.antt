@@ -1,10 +1,9 @@
 -- The tables: what is found there has the number that was looked for, and each entry is found under its own number.
 use Prim.Native.Nat.{ℕ, _%_, _<_}
-use mathlib.Core.Path.{_≡_, refl, sym, _∙_, ap, subst}
+use mathlib.Core.Path.{_≡_, refl, sym, subst}
 use mathlib.Core.List.{List, [], _∷_}
 use mathlib.Core.Bool.{Bool, true, false}
 use mathlib.Core.Option.{Option, none, some, Option·none-ne-some}
-use native.Mathlib.Omega.{arith}
 use lib.Dec.{eqb, ltb, T}
 use borrow.Author.Tests.{eqb-true, ltb-true}
 use Rattle.word.specs.Choice.{pick, both}
@@ -14,7 +13,7 @@ use Rattle.processor.specs.declared.Cond.{Cond}
 use Rattle.processor.specs.declared.Cond.the-variants.{Eq, Ne, Lt, Ge, Ltu, Geu}
 use Rattle.processor.specs.declared.Width.{Width}
 use Rattle.processor.specs.declared.Width.the-variants.{Byte, Half, Word, ByteU, HalfU}
-use Rattle.processor.specs.Instructions.{find, aluKey, condKey, widthKey, operations, immediates, shifts, branches, loads, stores, Among}
+use Rattle.processor.specs.Instructions.{find, aluKey, condKey, widthKey, operations, immediates, shifts, branches, loads, Among}
 
 -- What is found has the number.
 pub found-number : {A : Type 0} (number : A → ℕ) (l : List A) (k : ℕ) (a : A) → find number l k ≡ some a → number a ≡ k

@@ -15,7 +15,7 @@ use Rattle.processor.specs.declared.Status.the-variants.{Going, Exit, Tr
 use Rattle.processor.specs.Instructions.{decodeOf}
 use Rattle.processor.specs.Machine.{Machine, reg, wordAt}
 use Rattle.processor.specs.Execute.{reaches, readAt, writeAt, goto, stored, wrote, logged, halt, next, loadOf, storeOf, callOf, execOf}
-use Rattle.processor.specs.Run.{inCode, stepOf, isGoing, counted, Run, runOf}
+use Rattle.processor.specs.Run.{inCode, stepOf, isGoing, counted, runOf}
 
 -- a stop that a step can make
 abbrev pub Stops : Status → Type 0

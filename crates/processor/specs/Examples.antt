@@ -2,10 +2,10 @@
 use Prim.Native.Nat.{ℕ, _-_, _^_}
 use mathlib.Core.Path.{_≡_, refl}
 use mathlib.Core.List.{List, [], _∷_, _++_, map}
-use lib.ListN.{length, replicate}
+use lib.ListN.{length}
 use Rattle.word.specs.Word as W
 use Rattle.word.specs.Bytes.{wordOf, bytesOf, bytesOfWords}
-use Rattle.processor.specs.declared.Alu.the-variants.{Add, Sub, Sra, Sll, Slt, Sltu, Mul, Mulhsu, Div, Divu, Rem, Remu}
+use Rattle.processor.specs.declared.Alu.the-variants.{Add, Sub, Sra, Sll, Sltu, Mul, Mulhsu, Div, Divu, Rem, Remu}
 use Rattle.processor.specs.declared.Cond.the-variants.{Eq, Ne, Ltu}
 use Rattle.processor.specs.declared.Width.the-variants.{Byte, Word, HalfU}
 use Rattle.processor.specs.declared.Instr.{Instr}

@@ -1,6 +1,6 @@
 -- Document 03 §3: what each instruction does.
 use Prim.Native.Nat.{ℕ, _+_, _-_, _*_, _/_, _%_, _^_}
-use mathlib.Core.Bool.{Bool, true, false, not}
+use mathlib.Core.Bool.{Bool, not}
 use mathlib.Core.List.{List, [], _∷_, _++_}
 use lib.Dec.{leb, ltb, eqb}
 use lib.ListN.{length, set}
@@ -16,7 +16,7 @@ use Rattle.processor.specs.declared.Width.the-variants.{Byte, Half, Word
 use Rattle.processor.specs.declared.Instr.{Instr}
 use Rattle.processor.specs.declared.Instr.the-variants.{Lui, Auipc, Jal, Jalr, Branch, Load, Store, OpImm, Shift, Op, Fence, Ecall, Ebreak, Unknown}
 use Rattle.processor.specs.declared.Status.{Status}
-use Rattle.processor.specs.declared.Status.the-variants.{Going, Exit, Trap, Fault, Limit}
+use Rattle.processor.specs.declared.Status.the-variants.{Going, Exit, Trap, Fault}
 use Rattle.processor.specs.Machine.{Machine, state, memory-bytes, data-start, setRegister, reg, byteAt, halfAt, wordAt}
 
 -- Arithmetic. "Register shifts use the low 5 bits. mulh, mulhsu, mulhu give the upper 32 bits of the 64-bit product of signed by signed,
@@ -62,7 +62,7 @@ sizeOf Word = 4
 sizeOf ByteU = 1
 sizeOf HalfU = 2
 
--- "fault 3: a load or store that isn't aligned to its size, or leaves memory, or lies below 0x100000"
+-- whether a load or store may be: else it is fault 3, "a load or store that isn't aligned to its size, or leaves memory, or lies below 0x100000" (§4)
 unfoldable pub reaches : Width → ℕ → Bool
 reaches s at = both (eqb (at % sizeOf s) 0) (both (leb (at + sizeOf s) memory-bytes) (leb data-start at))
 
@@ -82,7 +82,7 @@ writeAt Word m i v = set (set (set (set m i (byte₀ v)) (i + 1) (byte₁ v)) (i
 
 -- How an instruction ends.
 
--- gone on at p; with memory changed; with register rd written
+-- gone on at p; with memory changed; with register rd written; with a number appended to the log
 abbrev pub goto : Machine → ℕ → Machine
 goto m p = state (m .registers) p (m .memory) (m .log) Going
 

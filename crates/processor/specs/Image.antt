@@ -34,8 +34,8 @@ pub record Lent : Type 0 where
 abbrev pub accepted : ℕ
 accepted = 0
 
--- "A run is refused by answer 4 if the code isn't whole words or is longer than that, 5 if the input block isn't whole words, is longer
--- than 1 MiB, 6 if the memory or log lent is shorter than stated": the smallest that applies.
+-- A run is refused "by answer 4 if the code isn't whole words or is longer than that, 5 if the input block isn't whole words, is longer
+-- than 1 MiB .., 6 if the memory or log lent is shorter than stated". The registers are lent too. The smallest that applies is the answer.
 unfoldable pub answerOf : Lent → ℕ
 answerOf l =
     pick (fits longest-code (l .code))

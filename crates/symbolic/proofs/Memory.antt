@@ -12,7 +12,8 @@ use Rattle.processor.specs.declared.Width.the-variants.{Word}
 use Rattle.processor.specs.Instructions.{encodeOf}
 use Rattle.processor.specs.Machine.{wordAt, memory-bytes, data-start}
 use Rattle.processor.specs.Execute.{reaches, writeAt}
-use Rattle.processor.proofs.Kept.{reached, write-length}
+use Rattle.processor.proofs.Kept.{reached}
+use Rattle.processor.proofs.Memory.{write-length}
 use Rattle.symbolic.specs.Symbolic.{Instruction, bad, updated, pos}
 use Rattle.symbolic.specs.Real.{real}
 use Rattle.symbolic.specs.Fine.{most-instructions}

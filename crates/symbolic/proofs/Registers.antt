@@ -12,7 +12,7 @@ use lib.Seq.{getD-set-other, getD-set-same}
 use borrow.Author.Tests.{lt-ltb, le-ltb, eqb-true, eq-eqb, ne-eqb}
 use Rattle.word.specs.Choice.{pick, both}
 use Rattle.processor.specs.Machine.{register-count, register, setRegister}
-use Rattle.processor.proofs.Kept.{setRegister-length}
+use Rattle.processor.proofs.Memory.{setRegister-length}
 use Rattle.symbolic.specs.Symbolic.{Bank, Fixed, Scratch, Argument, Saved, Temporary, first, width, Reg, x0, reg, number, Registers, get, set}
 use Rattle.symbolic.specs.Fine.{Valid}
 use Rattle.symbolic.proofs.Tests.{both-true}

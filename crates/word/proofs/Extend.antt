@@ -1,6 +1,6 @@
 -- Sign extension: flipping a number's top bit and taking its weight away copies the bit into all places above it.
 use Prim.Native.Nat.{ℕ, suc, _+_, _-_, _*_, _/_, _%_, _^_, _<_, _≤_}
-use mathlib.Core.Path.{_≡_, refl, sym, _∙_, ap}
+use mathlib.Core.Path.{_≡_, sym, _∙_, ap}
 use native.Mathlib.Omega.{arith}
 use native.Mathlib.Nat.{zero-mul, one-mul, zero-add, add-zero, div-eq-of-lt, div-eq-of-lt-le, pow-succ', mul-assoc, add-mul-mod-self-right, mod-eq-of-lt}
 use lib.Pow.{pow-pos, pow-mono, high-ones}

@@ -8,7 +8,7 @@ use native.Mathlib.Nat.{mul-assoc, mul-comm, mul-right-comm, mul-mul-mul-comm, m
 use lib.Pow.{pow-pos, shr-le}
 use lib.Dec.{T, ltb, leb, leb→le}
 use borrow.Author.Tests.{lt-ltb, le-ltb, le-leb, lt-leb}
-use lib.Signed.{ltZ, leZ, _≤ℤ_, _<ℤ_, ltZ-yes, quotZ, remZ, shrZ}
+use lib.Signed.{ltZ, _≤ℤ_, _<ℤ_, ltZ-yes, quotZ, remZ, shrZ}
 use lib.IntN.{ℤ, pos, negsuc, negℤ, natAbs, subℕ, _+ℤ_, _-ℤ_, _*ℤ_}
 use Rattle.word.specs.Choice.{pick, agree}
 use Rattle.word.specs.Word.{addW, subW, negW, mulW, negative, magnitude, ltS, quotS, remS, shlW, shrS, mulhSS, mulhSU, mulhUU, signExtend, bitOf}

@@ -1,0 +1,21 @@
+-- The front page: what an accepted program owes the compiler's theorem and the interpreter's flat form.
+--   accepted : the program of an accepted text is proper for code generation, and fits the flat form
+use mathlib.Core.List.{List}
+use Prim.Native.Nat.{ℕ, _<_}
+use native.Mathlib.Omega.{arith}
+use lib.ListN.{length}
+use Rattle.language.specs.Tokens.{Token, Placed, Readable}
+use Rattle.language.specs.Grammar.{Has, nth}
+use Rattle.language.specs.Core.{Program}
+use Rattle.language.specs.Text.{Accepted}
+use Rattle.flat.specs.Fits.{Fits}
+use Rattle.codegen.specs.Owed.{Owed, most-nodes}
+use Rattle.elaboration.proofs.Tokens.{tokens-few, number-small, token-inside}
+use Rattle.elaboration.proofs.Programs.{program-owed}
+
+-- a text has fewer tokens than nodes are allowed
+inside : {text : List ℕ} {ts : List Placed} → Readable text ts → (i : ℕ) (t : Token) → Has (nth ts) i t → i < most-nodes
+inside {ts = ts} r i t h = omega (arith, token-inside ts i t h, tokens-few (r .reads), r .short)
+
+pub accepted : (text : List ℕ) (p : Program) → Accepted text p → Owed p × Fits p
+accepted text p a = program-owed (nth (a .parses .tokens)) (number-small (a .parses .reads)) (inside (a .parses .reads)) (a .parses .derives) (length text) .holds p (a .ruled)

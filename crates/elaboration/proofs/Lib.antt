@@ -1,0 +1,15 @@
+pub mod All
+pub mod Tokens
+pub mod Declarations
+pub mod Levels
+pub mod Wanted
+pub mod Calls
+pub mod Slots
+pub mod Measures
+pub mod Expressions
+pub mod Blocks
+pub mod Statements
+pub mod Functions
+pub mod Locals
+pub mod Programs
+pub mod Accepted

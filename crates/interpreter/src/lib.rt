@@ -1,0 +1,10 @@
+// The interpreter.
+pub mod words;
+pub mod operators;
+
+// How far something came: it goes on with a value, or it has stopped.
+pub enum Out {
+    Goes(u32),
+    Trapped(u32),
+    OutOfFuel,
+}

@@ -1,0 +1,2 @@
+# tools/prove on a crate of its own.
+exec python3 tools/prove --self-test
