@@ -10,3 +10,10 @@ pub mod Calls
 pub mod Expressions
 pub mod Statements
 pub mod Functions
+pub mod Lengths
+pub mod Link
+pub mod Simulation
+pub mod Ranges
+pub mod Reaches
+pub mod Encodes
+pub mod Whole
