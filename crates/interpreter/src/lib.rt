@@ -1,6 +1,6 @@
 // The interpreter.
-pub mod words;
 pub mod operators;
+pub mod words;
 
 // How far something came: it goes on with a value, or it has stopped.
 pub enum Out {

@@ -2,11 +2,28 @@
 ghost use mathlib.Core.Path.{_≡_};
 ghost use Rattle.interpreter.specs.Post.{Strictly, Unarily};
 use crate::Out;
-use flat::operator::{EQ, NE, LT, LE, GT, GE, ADD, SUB, MUL, DIV, REM, NEGATE, NOT};
+use flat::operator::ADD;
+use flat::operator::DIV;
+use flat::operator::EQ;
+use flat::operator::GE;
+use flat::operator::GT;
+use flat::operator::LE;
+use flat::operator::LT;
+use flat::operator::MUL;
+use flat::operator::NE;
+use flat::operator::NEGATE;
+use flat::operator::NOT;
+use flat::operator::REM;
+use flat::operator::SUB;
 use flat::program::MALFORMED;
-use word::arithmetic::{add, sub, mul, neg};
-use word::division::{quotient_signed, remainder_signed};
-use word::order::{less_signed, bit_of};
+use word::arithmetic::add;
+use word::arithmetic::mul;
+use word::arithmetic::neg;
+use word::arithmetic::sub;
+use word::division::quotient_signed;
+use word::division::remainder_signed;
+use word::order::bit_of;
+use word::order::less_signed;
 
 const DIVISION_BY_ZERO: u32 = 1;
 
@@ -24,8 +41,16 @@ pub fn strict(op: u32, a: u32, b: u32) -> Out
         ADD => Out::Goes(add(a, b)),
         SUB => Out::Goes(sub(a, b)),
         MUL => Out::Goes(mul(a, b)),
-        DIV => if b == 0 { Out::Trapped(DIVISION_BY_ZERO) } else { Out::Goes(quotient_signed(a, b)) },
-        REM => if b == 0 { Out::Trapped(DIVISION_BY_ZERO) } else { Out::Goes(remainder_signed(a, b)) },
+        DIV => if b == 0 {
+            Out::Trapped(DIVISION_BY_ZERO)
+        } else {
+            Out::Goes(quotient_signed(a, b))
+        },
+        REM => if b == 0 {
+            Out::Trapped(DIVISION_BY_ZERO)
+        } else {
+            Out::Goes(remainder_signed(a, b))
+        },
         _ => Out::Trapped(MALFORMED),
     }
 }

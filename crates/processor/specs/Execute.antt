@@ -95,7 +95,7 @@ wrote m rd v p = state (setRegister (m .registers) rd v) p (m .memory) (m .log) 
 abbrev pub logged : Machine → ℕ → ℕ → Machine
 logged m v p = state (m .registers) p (m .memory) (m .log ++ (v ∷ [])) Going
 
--- "At any stop pc is that of the instruction that stopped .., and that instruction has changed nothing else." (§4)
+-- stopped at this instruction, which "has changed nothing else" (§4)
 abbrev pub halt : Machine → Status → Machine
 halt m s = state (m .registers) (m .pc) (m .memory) (m .log) s
 

@@ -44,11 +44,11 @@ immS w = signExtend 12 (bits 31 25 w * 2 ^ 5 + bits 11 7 w)
 unfoldable pub immB : ℕ → ℕ
 immB w = signExtend 13 (bits 31 31 w * 2 ^ 12 + bits 7 7 w * 2 ^ 11 + bits 30 25 w * 2 ^ 5 + bits 11 8 w * 2 ^ 1)
 
--- | U | imm[31:12], bits 31 to 12 | rd | opcode |
+-- | U | imm[31:12], bits 31 to 12 | | | | rd | opcode |
 unfoldable pub immU : ℕ → ℕ
 immU w = bits 31 12 w * 2 ^ 12
 
--- | J | imm[20], imm[10:1], imm[11], imm[19:12], bits 31 to 12 | rd | opcode |
+-- | J | imm[20], imm[10:1], imm[11], imm[19:12], bits 31 to 12 | | | | rd | opcode |
 unfoldable pub immJ : ℕ → ℕ
 immJ w = signExtend 21 (bits 31 31 w * 2 ^ 20 + bits 19 12 w * 2 ^ 12 + bits 20 20 w * 2 ^ 11 + bits 30 21 w * 2 ^ 1)
 

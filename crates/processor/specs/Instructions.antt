@@ -55,7 +55,7 @@ immediates = Add ∷ Slt ∷ Sltu ∷ Xor ∷ Or ∷ And ∷ []
 abbrev pub shifts : List Alu
 shifts = Sll ∷ Srl ∷ Sra ∷ []
 
--- | 63 B | 0 1 4 5 6 7 | beq bne blt bge bltu bgeu |
+-- | 63 B | 0 1 4 5 6 7 | beq bne blt bge bltu bgeu: pc = pc + imm if so |
 abbrev pub condKey : Cond → ℕ
 condKey Eq = 0
 condKey Ne = 1

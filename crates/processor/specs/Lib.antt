@@ -5,3 +5,4 @@ pub mod Execute
 pub mod Run
 pub mod Image
 pub mod Examples
+pub mod Edges

@@ -8,7 +8,7 @@ use Rattle.word.specs.Bytes.{wordOf}
 use Rattle.processor.specs.declared.Status.{Status}
 use Rattle.processor.specs.declared.Status.the-variants.{Going}
 
--- "32 registers x0 to x31 of 32 bits, x0 always 0; pc; a log. Memory is 2 MiB, bytes 0 to 0x1fffff."
+-- "32 registers x0 to x31 of 32 bits, x0 always 0; pc; a log. Memory is 2 MiB, bytes 0 to 0x1fffff, multi-byte items lowest byte first."
 -- Status is whether the run goes on, or how it stopped (§4).
 pub record Machine : Type 0 where
   pub registers : List ℕ
@@ -26,7 +26,7 @@ register-count = 32
 abbrev pub memory-bytes : ℕ
 memory-bytes = 0x200000
 
--- "Code lies from 0x1000 on; loads and stores below 0x100000 fault", and "the input block lies from 0x100000 on".
+-- "Code lies from 0x1000 on; loads and stores below 0x100000 fault"; the input block lies from there on.
 abbrev pub code-start : ℕ
 code-start = 0x1000
 
@@ -53,7 +53,7 @@ halfAt memory i = byteAt memory i + byteAt memory (i + 1) * 256
 unfoldable pub wordAt : List ℕ → ℕ → ℕ
 wordAt memory i = wordOf (byteAt memory i) (byteAt memory (i + 1)) (byteAt memory (i + 2)) (byteAt memory (i + 3))
 
--- "At the start all registers are 0, pc is 0x1000, memory is 0 except the code and the input block."
+-- "At the start all registers are 0, pc is 0x1000, memory is 0 except the code and the input block, which lies from 0x100000 on."
 
 unfoldable pub zeros : ℕ → List ℕ
 zeros n = replicate n 0

@@ -9,7 +9,7 @@ use Rattle.processor.specs.Instructions.{decodeOf}
 use Rattle.processor.specs.Machine.{Machine, code-start, wordAt}
 use Rattle.processor.specs.Execute.{goto, halt, execOf}
 
--- "fault 1: pc isn't a multiple of 4, or isn't within the code", which is this many bytes
+-- else it is fault 1, "pc isn't a multiple of 4, or isn't within the code", which is this many bytes
 unfoldable pub inCode : ℕ → ℕ → Bool
 inCode size pc = both (eqb (pc % 4) 0) (both (leb code-start pc) (ltb pc (code-start + size)))
 
@@ -36,7 +36,7 @@ pub record Run : Type 0 where
   pub machine : Machine
   pub steps : ℕ
 
--- The run of a machine that goes on, with a limit of so many steps more, after k of them. "The limit is looked at first."
+-- The run of a machine that goes on, with a limit of so many steps more, after k of them. The limit is looked at first.
 unfoldable pub runOf : ℕ → ℕ → ℕ → Machine → ℕ → Run
 runOf size room zero m k = record { machine = halt m Limit; steps = k }
 runOf size room (suc limit) m k =
