@@ -1,2 +1,3 @@
 pub mod Lists
 pub mod Operate
+pub mod Moving

@@ -36,3 +36,32 @@ pub record Strictly (op a b : ℕ) (o : Out) : Type 0 where
 pub record Unarily (op a : ℕ) (o : Out) : Type 0 where
   pub same : (invoke : ℕ → List ℕ → Act ℕ) (vs : List ℕ) (k : Onward) (ls : List ℕ) (w : World) → a ≡ top vs →
       step invoke (getD unaries op unknown) vs k ls w ≡ bind (valueOf o ls w) (push (drop 1 vs) k)
+
+-- how many words of room an activation takes at most
+abbrev pub frame-words : ℕ
+frame-words = 388
+
+-- the room that an activation has for c locals and h operands
+pub record Frame (c h : ℕ) (work : List ℕ) : Type 0 where
+  pub locals : c ≤ most-locals
+  pub operands : h ≤ most-operands
+  pub room : frame-words ≤ length work
+
+-- what goes on, unless it stopped
+abbrev pub onwards : Out → World → Result ℕ → Result ℕ
+onwards (Goes v) w r = r
+onwards (Trapped n) w r = stops (trapped n) w
+onwards OutOfFuel w r = stops outOfFuel w
+
+-- a value pushed on h operands
+pub record Pushes (work : List ℕ) (c h v : ℕ) (o : Out) (h′ : ℕ) (work′ : List ℕ) : Type 0 where
+  pub same : (k : Onward) (ls : List ℕ) (w : World) → push (operandsAt work c h) k v ls w ≡ onwards o w (k 0 (operandsAt work′ c h′) ls w)
+  pub locals : take c work′ ≡ take c work
+  pub fits : h′ ≤ most-operands
+
+-- an item that calls nothing, on h operands, whatever follows: how many items are skipped, and the operands after it
+pub record Moves (work : List ℕ) (c h : ℕ) (arrays : List ℕ) (i : Kind) (o : Out) (skip h′ : ℕ) (work′ : List ℕ) : Type 0 where
+  pub same : (invoke : ℕ → List ℕ → Act ℕ) (k : Onward) (fuel : ℕ) (log : List ℕ) →
+      step invoke i (operandsAt work c h) k (take c work) (record { fuel = fuel; log = log; arrays = arrays }) ≡
+      onwards o (record { fuel = fuel; log = log; arrays = arrays }) (k skip (operandsAt work′ c h′) (take c work′) (record { fuel = fuel; log = log; arrays = arrays }))
+  pub fits : h′ ≤ most-operands

@@ -1,6 +1,8 @@
 // The interpreter.
-pub mod words;
-pub mod operators;
+pub mod words; // words in slices
+pub mod operators; // operators by their numbers
+pub mod operands; // an activation's locals and operands
+pub mod items; // items that call nothing
 
 // How far something came: it goes on with a value, or it has stopped.
 pub enum Out {
