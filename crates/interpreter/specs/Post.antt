@@ -3,13 +3,15 @@
 use mathlib.Core.Path.{_≡_}
 use mathlib.Core.List.{List, [], _∷_}
 use mathlib.Core.Bool.{Bool, true, false}
-use Prim.Native.Nat.{ℕ, zero, suc, _+_, _*_, _≤_}
+use Prim.Native.Nat.{ℕ, zero, suc, _+_, _*_, _≤_, _<_}
 use lib.ListN.{length, getD, take, drop}
 use Rattle.word.specs.Choice.{pick}
 use Rattle.language.specs.Rules.{most-locals}
-use Rattle.language.specs.Meaning.{World, Result, goes, stops, Stop, trapped, outOfFuel, Act, bind, Flow, next, returned}
-use Rattle.flat.specs.Items.{Kind, unknown, top, Onward, push, most-operands, step, scan, evaluate}
-use Rattle.flat.specs.Words.{unaries, stricts, kindOf, itemsOf, functionOf, blockOf, most-nesting}
+use Rattle.language.specs.Core.{Array}
+use Rattle.language.specs.Meaning.{World, Result, goes, stops, Stop, trapped, outOfFuel, Act, bind, value, branch, write, append, Flow, next, returned}
+use Rattle.flat.specs.Items.{Kind, call, unknown, top, Onward, push, most-operands, step, scan, evaluate}
+use Rattle.flat.specs.Statements.{fexec, fblock, fcallAt}
+use Rattle.flat.specs.Words.{unaries, stricts, kindOf, itemsOf, word, first-end, second, statementOf, functionOf, blockOf, most-nesting}
 use Rattle.interpreter.specs.declared.Out.{Out}
 use Rattle.interpreter.specs.declared.Out.the-variants.{Goes, Trapped, OutOfFuel}
 
@@ -65,3 +67,76 @@ pub record Moves (work : List ℕ) (c h : ℕ) (arrays : List ℕ) (i : Kind) (o
       step invoke i (operandsAt work c h) k (take c work) (record { fuel = fuel; log = log; arrays = arrays }) ≡
       onwards o (record { fuel = fuel; log = log; arrays = arrays }) (k skip (operandsAt work′ c h′) (take c work′) (record { fuel = fuel; log = log; arrays = arrays }))
   pub fits : h′ ≤ most-operands
+
+-- Calls, statements and blocks. `t` is all words, `room` the log's room, and `left` how many more activations may be made.
+
+abbrev pub invokeOf : List ℕ → ℕ → ℕ → ℕ → List ℕ → Act ℕ
+invokeOf t room left = fcallAt room (functionOf t) left
+
+-- the room that an activation with c locals has, its own and that of the calls it makes, and the log's
+pub record Roomy (c left room : ℕ) (work log : List ℕ) : Type 0 where
+  pub locals : c ≤ most-locals
+  pub frames : frame-words * (left + 1) ≤ length work
+  pub logs : room ≤ length log
+
+-- the same of an activation that isn't made yet, whose n arguments begin its room
+pub record Callable (n left room : ℕ) (work log : List ℕ) : Type 0 where
+  pub arguments : n ≤ length work
+  pub frames : frame-words * left ≤ length work
+  pub logs : room ≤ length log
+
+-- what stands in the log above the words that are logged stays
+pub record Grows (n : ℕ) (log : List ℕ) (n′ : ℕ) (log′ : List ℕ) : Type 0 where
+  pub more : n ≤ n′
+  pub above : drop n′ log′ ≡ drop n′ log
+
+-- what a statement's outcome comes to, by whether the function has returned
+abbrev pub flows : Bool → Out → List ℕ → World → Result Flow
+flows back (Goes v) ls w = goes (pick back (returned v) next) ls w
+flows back (Trapped n) ls w = stops (trapped n) w
+flows back OutOfFuel ls w = stops outOfFuel w
+
+-- one item of a scan with n items from ws on still to do: n′ from ws′ on are left
+pub record Steps (t : List ℕ) (room left n : ℕ) (ws : List ℕ) (c h : ℕ) (work : List ℕ) (w : World) (o : Out) (n′ : ℕ) (ws′ : List ℕ) (h′ : ℕ) (work′ : List ℕ) (w′ : World) : Type 0 where
+  pub same : scan (invokeOf t room left) (itemsOf n ws) 0 (operandsAt work c h) (take c work) w ≡
+      onwards o w′ (scan (invokeOf t room left) (itemsOf n′ ws′) 0 (operandsAt work′ c h′) (take c work′) w′)
+  pub fits : h′ ≤ most-operands
+  pub fewer : n′ < n
+
+-- an item that calls function f with n arguments, whatever follows
+pub record Enters (t : List ℕ) (room left f n c h : ℕ) (work : List ℕ) (w : World) (o : Out) (h′ : ℕ) (work′ : List ℕ) (w′ : World) : Type 0 where
+  pub same : (k : Onward) → step (invokeOf t room left) (call f n) (operandsAt work c h) k (take c work) w ≡ onwards o w′ (k 0 (operandsAt work′ c h′) (take c work′) w′)
+  pub fits : h′ ≤ most-operands
+
+-- a call with the arguments vs
+pub record Calls (t : List ℕ) (room left f : ℕ) (vs : List ℕ) (w : World) (o : Out) (w′ : World) : Type 0 where
+  pub same : (ls : List ℕ) → invokeOf t room left f vs ls w ≡ valueOf o ls w′
+
+-- n items from ws on
+pub record Scans (t : List ℕ) (room left n : ℕ) (ws ls : List ℕ) (w : World) (o : Out) (ls′ : List ℕ) (w′ : World) : Type 0 where
+  pub same : evaluate (invokeOf t room left) (itemsOf n ws) ls w ≡ valueOf o ls′ w′
+
+-- n statements from ws on, where blocks may nest so deep
+pub record Blocks (t : List ℕ) (room left depth n : ℕ) (ws ls : List ℕ) (w : World) (back : Bool) (o : Out) (ls′ : List ℕ) (w′ : World) : Type 0 where
+  pub same : fblock room (invokeOf t room left) (blockOf depth n ws) ls w ≡ flows back o ls′ w′
+
+-- the statement at ws
+pub record Execs (t : List ℕ) (room left depth : ℕ) (ws ls : List ℕ) (w : World) (back : Bool) (o : Out) (ls′ : List ℕ) (w′ : World) : Type 0 where
+  pub same : fexec room (invokeOf t room left) (statementOf (blockOf depth) (word ws 0) ws) ls w ≡ flows back o ls′ w′
+
+-- the rest of the statement at ws after its first expression's value: the block that it chooses; the second expression, and the element set
+pub record Chooses (t : List ℕ) (room left depth : ℕ) (ws : List ℕ) (v : ℕ) (ls : List ℕ) (w : World) (back : Bool) (o : Out) (ls′ : List ℕ) (w′ : World) : Type 0 where
+  pub same : branch v (fblock room (invokeOf t room left) (blockOf depth (word ws 5) (drop (first-end ws) ws)))
+      (fblock room (invokeOf t room left) (blockOf depth (word ws 6) (drop (first-end ws + word ws 1) ws))) ls w ≡ flows back o ls′ w′
+
+pub record Stores (t : List ℕ) (room left : ℕ) (ws : List ℕ) (i : ℕ) (ls : List ℕ) (w : World) (o : Out) (ls′ : List ℕ) (w′ : World) : Type 0 where
+  pub same : bind (evaluate (invokeOf t room left) (second ws) ls w) (λ v ls₁ w₁. bind (write (record { offset = word ws 1; size = word ws 2 }) i v ls₁ w₁) (λ _. value next)) ≡ flows false o ls′ w′
+
+-- a value logged
+pub record Emits (room v : ℕ) (w : World) (o : Out) (w′ : World) : Type 0 where
+  pub same : (ls : List ℕ) → bind (append room v ls w) (λ _. value next) ≡ flows false o ls w′
+
+-- function f's words: where its body is, how many statements it has, its lets
+pub record Heads (t : List ℕ) (f place statements lets : ℕ) : Type 0 where
+  pub body : functionOf t f .body ≡ blockOf most-nesting statements (drop place t)
+  pub locals : functionOf t f .lets ≡ lets
