@@ -138,7 +138,9 @@ mutual
   block-back C.end (suc h) more l = refl
   block-back (C.then s b) zero more l = absurd (omega arith)
   block-back (C.then s b) (suc h) more l =
-      rw (rest-word (flat s) (restLength (flat s)) (blockWords (flats b) more),
+      rw (
+        rest-word (flat s) (restLength (flat s)) (blockWords (flats b) more),
         past-stmt (flat s) (restLength (flat s)) (blockWords (flats b) more) .is,
         stmt-back s h (restLength (flat s)) (blockWords (flats b) more) (omega arith),
-        block-back b (suc h) more (omega arith))
+        block-back b (suc h) more (omega arith),
+      )

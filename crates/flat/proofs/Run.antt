@@ -45,9 +45,9 @@ entry-at [] f place more l = absurd (omega arith)
 entry-at (g ∷ fs) zero place more l = record { places = omega arith; statements = refl; parameters = refl; lets = refl }
 entry-at (g ∷ fs) (suc f) place more l =
     let e : Entry (drop (function-words * f) (entries fs (place + blockLength (flats (g .body))) more)) (place + blockLength (flats (g .body)) + before fs f) (functionAt fs f) =
-      entry-at fs f (place + blockLength (flats (g .body))) more (omega arith) in
+    entry-at fs f (place + blockLength (flats (g .body))) more (omega arith) in
     rw (past-entry f place (count (flats (g .body))) (g .parameters) (g .lets) (entries fs (place + blockLength (flats (g .body))) more))
-      (record { places = e .places ∙ omega arith; statements = e .statements; parameters = e .parameters; lets = e .lets })
+    (record { places = e .places ∙ omega arith; statements = e .statements; parameters = e .parameters; lets = e .lets })
 
 -- where function f's body is among the bodies
 record Body (fs : List C.Function) (f : ℕ) (more : List ℕ) : Type 0 where
@@ -84,7 +84,7 @@ module _ (p : C.Program) (more : List ℕ) where
   in-table : (f j i : ℕ) → i ≡ entry f + j → word words i ≡ word (drop (function-words * f) table) j
   in-table f j i e =
       ap (word words) e ∙ (sym (getD-drop (entry f) words j 0) ∙
-        ap (λ (ws : List ℕ). word ws j) (onward {m = function-words * f} past-start (record { is = refl }) .is))
+      ap (λ (ws : List ℕ). word ws j) (onward {m = function-words * f} past-start (record { is = refl }) .is))
 
   decoded-in : (f : ℕ) → f < length fs → nestsAll (bodyOf fs f) ≤ most-nesting → functionOf words f ≡ flatten (functionAt fs f)
   unfolding functionOf flatten
@@ -92,14 +92,17 @@ module _ (p : C.Program) (more : List ℕ) where
       let e = entry-at fs f (entry (length fs)) (bodies fs more) l in
       let b = body-at fs f more l in
       let q : Past (entry (length fs) + before fs f) words (blockWords (flats (bodyOf fs f)) (b .rest)) =
-        onward (onward past-start (past-entries fs (entry (length fs)) (bodies fs more))) (b .past) in
-      rw (how-many, lt-ltb f (length fs) l,
+      onward (onward past-start (past-entries fs (entry (length fs)) (bodies fs more))) (b .past) in
+      rw (
+        how-many,
+        lt-ltb f (length fs) l,
         in-table f 2 (entry f + 2) refl ∙ e .parameters,
         in-table f 3 (entry f + 3) refl ∙ e .lets,
         in-table f 1 (entry f + 1) refl ∙ e .statements,
         in-table f 0 (entry f) (omega arith) ∙ e .places,
         q .is,
-        block-back (bodyOf fs f) most-nesting (b .rest) h)
+        block-back (bodyOf fs f) most-nesting (b .rest) h,
+      )
 
   decoded-out : (f : ℕ) → length fs ≤ f → functionOf words f ≡ flatten (functionAt fs f)
   unfolding functionOf flatten functionAt flats
@@ -120,7 +123,7 @@ module _ (p : C.Program) (more : List ℕ) where
   unfolding flatRun runOf
   flat-run-then fits arrays fuel room =
       rw main-number
-        (ap ended (calls-same room fs (functionOf words) (decoded fits) (fits .operands) (fits .locals) most-activations .same (p .main) [] [] (record { fuel = fuel; log = []; arrays = arrays }) (omega (arith, fits .main))))
+      (ap ended (calls-same room fs (functionOf words) (decoded fits) (fits .operands) (fits .locals) most-activations .same (p .main) [] [] (record { fuel = fuel; log = []; arrays = arrays }) (omega (arith, fits .main))))
 
 pub flat-run : (p : C.Program) → Fits p → (arrays : List ℕ) (fuel room : ℕ) → flatRun (wordsOf p) arrays fuel room ≡ runOf p arrays fuel room
 unfolding wordsOf

@@ -25,7 +25,7 @@ module _ (room : ℕ) (lets : ℕ → ℕ) (invoke call-fn : ℕ → List ℕ �
   unfolding evaluate begins bind scan onto operands locals
   evaluate-codes f xs h g =
       fun-ext (λ ls. fun-ext (λ w. scan-codes room lets invoke call-fn agree xs f 0 [] [] [] ls w (omega arith) (omega arith) (omega arith) (omega arith) ∙
-        bind-ext (evals room call-fn xs ls w) (λ vs l u. bind-goes (call-fn f vs l u))))
+      bind-ext (evals room call-fn xs ls w) (λ vs l u. bind-goes (call-fn f vs l u))))
 
   abbrev mostOperands : C.Stmt → ℕ
   mostOperands s = most operands (λ f xs. operands (C.call f xs)) s
@@ -47,12 +47,15 @@ module _ (room : ℕ) (lets : ℕ → ℕ) (invoke call-fn : ℕ → List ℕ �
     stmt-same (C.put x e) h g ls w = rw (evaluate-code e h g)
     stmt-same (C.store a i e) h g ls w = rw (evaluate-code i (omega arith) (omega arith), evaluate-code e (omega arith) (omega arith))
     stmt-same (C.choose e a b) h g ls w =
-        rw (evaluate-code e (omega arith) (omega arith), fun-ext (λ l. fun-ext (λ u. block-same a (omega arith) (omega arith) l u)),
-          fun-ext (λ l. fun-ext (λ u. block-same b (omega arith) (omega arith) l u)))
+        rw (
+          evaluate-code e (omega arith) (omega arith),
+          fun-ext (λ l. fun-ext (λ u. block-same a (omega arith) (omega arith) l u)),
+          fun-ext (λ l. fun-ext (λ u. block-same b (omega arith) (omega arith) l u)),
+        )
     stmt-same (C.while e b) h g ls w =
         bind-ext (begin ls w)
-          (λ _ l u. ap (λ (m : Act ℕ). rounds (u .fuel) m (block room call-fn b) l u) (sym (evaluate-code e (omega arith) (omega arith))) ∙
-            ap (λ (m : Act Flow). rounds (u .fuel) (evaluate invoke (code e 0 [])) m l u) (sym (fun-ext (λ l′. fun-ext (λ u′. block-same b (omega arith) (omega arith) l′ u′)))))
+        (λ _ l u. ap (λ (m : Act ℕ). rounds (u .fuel) m (block room call-fn b) l u) (sym (evaluate-code e (omega arith) (omega arith))) ∙
+        ap (λ (m : Act Flow). rounds (u .fuel) (evaluate invoke (code e 0 [])) m l u) (sym (fun-ext (λ l′. fun-ext (λ u′. block-same b (omega arith) (omega arith) l′ u′)))))
     stmt-same C.leave h g ls w = refl
     stmt-same (C.give e) h g ls w = rw (evaluate-code e h g)
     stmt-same (C.emit e) h g ls w = rw (evaluate-code e h g)
@@ -63,9 +66,9 @@ module _ (room : ℕ) (lets : ℕ → ℕ) (invoke call-fn : ℕ → List ℕ �
     block-same C.end h g ls w = refl
     block-same (C.then s b) h g ls w =
         rw (stmt-same s (omega arith) (omega arith) ls w)
-          (bind-ext (begin ls w)
-            (λ _ l u. bind-ext (fexec room invoke (flat s) l u) (λ f l′ u′. rw (fun-ext (λ l″. fun-ext (λ u″. block-same b (omega arith) (omega arith) l″ u″))))) ∙
-          sym (bind-assoc (begin ls w) _ _))
+        (bind-ext (begin ls w)
+        (λ _ l u. bind-ext (fexec room invoke (flat s) l u) (λ f l′ u′. rw (fun-ext (λ l″. fun-ext (λ u″. block-same b (omega arith) (omega arith) l″ u″))))) ∙
+        sym (bind-assoc (begin ls w) _ _))
 
 -- calls, by the activations that are left
 module _ (room : ℕ) (fs : List C.Function) (gs : ℕ → Function) (decoded : (f : ℕ) → gs f ≡ flatten (functionAt fs f))

@@ -130,7 +130,7 @@ module _ (room : ℕ) (lets : ℕ → ℕ) (invoke call-fn : ℕ → List ℕ �
     scan-code (C.element a i) k is vs ls w h g =
         scan-code i (suc k) _ vs ls w h g ∙
         (bind-ext (begins (suc k) ls w)
-          (λ _ ls′ w′. bind-ext (ev i ls′ w′) (λ x l u. push-out (read a x l u) vs _ (omega (arith, some-operand i))) ∙ sym (bind-assoc (ev i ls′ w′) _ _)) ∙
+        (λ _ ls′ w′. bind-ext (ev i ls′ w′) (λ x l u. push-out (read a x l u) vs _ (omega (arith, some-operand i))) ∙ sym (bind-assoc (ev i ls′ w′) _ _)) ∙
         begins-more k (λ ls′ w′. bind (ev i ls′ w′) (λ x. read a x)) _ ls w)
     scan-code (C.call f xs) k is vs ls w h g =
         scan-codes xs f (suc k) is [] vs ls w (omega arith) (omega arith) (omega arith) (omega arith) ∙
@@ -138,27 +138,27 @@ module _ (room : ℕ) (lets : ℕ → ℕ) (invoke call-fn : ℕ → List ℕ �
     scan-code (C.unary o a) k is vs ls w h g =
         scan-code a (suc k) _ vs ls w h g ∙
         (bind-ext (begins (suc k) ls w)
-          (λ _ ls′ w′. bind-ext (ev a ls′ w′) (λ x l u. push-in vs _ _ l u (omega (arith, some-operand a))) ∙ sym (bind-assoc (ev a ls′ w′) _ _)) ∙
+        (λ _ ls′ w′. bind-ext (ev a ls′ w′) (λ x l u. push-in vs _ _ l u (omega (arith, some-operand a))) ∙ sym (bind-assoc (ev a ls′ w′) _ _)) ∙
         begins-more k (λ ls′ w′. bind (ev a ls′ w′) (λ x. value (apply o x))) _ ls w)
     scan-code (C.strict o a b) k is vs ls w h g =
         scan-code a (suc k) _ vs ls w (omega arith) (omega arith) ∙
         (bind-ext (begins (suc k) ls w)
-          (λ _ ls′ w′. bind-ext (ev a ls′ w′)
-            (λ x l u. scan-code b 0 _ (x ∷ vs) l u (omega arith) (omega arith) ∙
-              (bind-ext (ev b l u) (λ y l′ u′. push-out (operate o x y l′ u′) vs _ (omega (arith, some-operand a))) ∙ sym (bind-assoc (ev b l u) _ _))) ∙
-            sym (bind-assoc (ev a ls′ w′) _ _)) ∙
+        (λ _ ls′ w′. bind-ext (ev a ls′ w′)
+        (λ x l u. scan-code b 0 _ (x ∷ vs) l u (omega arith) (omega arith) ∙
+        (bind-ext (ev b l u) (λ y l′ u′. push-out (operate o x y l′ u′) vs _ (omega (arith, some-operand a))) ∙ sym (bind-assoc (ev b l u) _ _))) ∙
+        sym (bind-assoc (ev a ls′ w′) _ _)) ∙
         begins-more k (λ ls′ w′. bind (ev a ls′ w′) (λ x l u. bind (ev b l u) (λ y. operate o x y))) _ ls w)
     scan-code (C.and a b) k is vs ls w h g =
         scan-code a (suc k) _ vs ls w (omega arith) (omega arith) ∙
         (bind-ext (begins (suc k) ls w)
-          (λ _ ls′ w′. bind-ext (ev a ls′ w′) (λ x l u. and-way b is vs (omega (arith, some-operand a)) (λ l′ u′. scan-code b 0 _ vs l′ u′ (omega arith) (omega arith)) x l u) ∙
-            sym (bind-assoc (ev a ls′ w′) _ _)) ∙
+        (λ _ ls′ w′. bind-ext (ev a ls′ w′) (λ x l u. and-way b is vs (omega (arith, some-operand a)) (λ l′ u′. scan-code b 0 _ vs l′ u′ (omega arith) (omega arith)) x l u) ∙
+        sym (bind-assoc (ev a ls′ w′) _ _)) ∙
         begins-more k (λ ls′ w′. bind (ev a ls′ w′) (λ x. branch x (ev b) (value 0))) _ ls w)
     scan-code (C.or a b) k is vs ls w h g =
         scan-code a (suc k) _ vs ls w (omega arith) (omega arith) ∙
         (bind-ext (begins (suc k) ls w)
-          (λ _ ls′ w′. bind-ext (ev a ls′ w′) (λ x l u. or-way b is vs (omega (arith, some-operand a)) (λ l′ u′. scan-code b 0 _ vs l′ u′ (omega arith) (omega arith)) x l u) ∙
-            sym (bind-assoc (ev a ls′ w′) _ _)) ∙
+        (λ _ ls′ w′. bind-ext (ev a ls′ w′) (λ x l u. or-way b is vs (omega (arith, some-operand a)) (λ l′ u′. scan-code b 0 _ vs l′ u′ (omega arith) (omega arith)) x l u) ∙
+        sym (bind-assoc (ev a ls′ w′) _ _)) ∙
         begins-more k (λ ls′ w′. bind (ev a ls′ w′) (λ x. branch x (value 1) (ev b))) _ ls w)
 
     -- the same of arguments and their call, after the arguments ws
@@ -168,10 +168,10 @@ module _ (room : ℕ) (lets : ℕ → ℕ) (invoke call-fn : ℕ → List ℕ �
         bind (begins k ls w) (λ _ ls′ w′. bind (evs xs ls′ w′) (λ us l u. bind (call-fn f (onto ws us) l u) (λ v. sc is 0 (v ∷ vs))))
     scan-codes C.none f k is ws vs ls w h g q z =
         bind-ext (begins k ls w)
-          (λ _ ls′ w′. rw (le-ltb (length (ws ++ vs)) (length ws) (omega (arith, length-append ws vs)), popped-all ws vs [], drop-all ws vs, agree .same f (onto ws []) ls′ w′ (omega (arith, length-onto ws [])))
-            (push-out (call-fn f (onto ws []) ls′ w′) vs _ h))
+        (λ _ ls′ w′. rw (le-ltb (length (ws ++ vs)) (length ws) (omega (arith, length-append ws vs)), popped-all ws vs [], drop-all ws vs, agree .same f (onto ws []) ls′ w′ (omega (arith, length-onto ws [])))
+        (push-out (call-fn f (onto ws []) ls′ w′) vs _ h))
     scan-codes (C.more e xs) f k is ws vs ls w h g q z =
         scan-code e k _ (ws ++ vs) ls w (omega arith) (omega arith) ∙
         bind-ext (begins k ls w)
-          (λ _ ls′ w′. bind-ext (ev e ls′ w′) (λ v l u. scan-codes xs f 0 is (v ∷ ws) vs l u h (omega arith) (omega arith) (omega arith) ∙ sym (bind-assoc (evs xs l u) _ _)) ∙
-            sym (bind-assoc (ev e ls′ w′) _ _))
+        (λ _ ls′ w′. bind-ext (ev e ls′ w′) (λ v l u. scan-codes xs f 0 is (v ∷ ws) vs l u h (omega arith) (omega arith) (omega arith) ∙ sym (bind-assoc (evs xs l u) _ _)) ∙
+        sym (bind-assoc (ev e ls′ w′) _ _))

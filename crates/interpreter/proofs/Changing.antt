@@ -7,11 +7,14 @@ use native.Mathlib.Numerals.{add-one}
 use native.Mathlib.Omega.{arith}
 use lib.ListN.{length, getD, take, drop, set, replicate, length-set, replicate-append-replicate}
 use lib.Seq.{take-set-lt, take-suc-set, set-out, drop-set-lt, length-take-le, getD-drop, drop-drop}
-use borrow.Author.Tests.{lt-ltb, le-ltb}
-use Rattle.language.specs.Meaning.{bind, append, log-full}
+use borrow.Author.Tests.{lt-ltb, le-ltb, ne-eqb}
+use Rattle.language.specs.Meaning.{World, bind, assign, append, log-full}
 use Rattle.flat.specs.Words.{word, entry, functionOf, blockOf, sequenceOf, most-nesting}
-use Rattle.interpreter.specs.declared.Out.the-variants.{Goes, Trapped, OutOfFuel}
-use Rattle.interpreter.specs.Post.{world, Grows, Emits, Heads}
+use Rattle.interpreter.specs.declared.Out.{Out}
+use Rattle.interpreter.specs.declared.Flow.{Flow}
+use Rattle.interpreter.specs.declared.Flow.the-variants as F
+use Rattle.interpreter.specs.Post.{world, Grows, Emits, finishes, Finishes, Heads, haltedOf, resultOf}
+use Rattle.interpreter.proofs.Lists.{Misses}
 
 take-short : (c : ℕ) (ws : List ℕ) → length (take c ws) ≤ c
 take-short zero ws = omega arith
@@ -48,14 +51,32 @@ grows-on {n₁} {n₂} {n₃} {l₁} {l₂} {l₃} x y = record { more = omega (
 pub emitted-grows : (n v : ℕ) (log : List ℕ) → Grows n log (n + 1) (set log n v)
 emitted-grows n v log = record { more = omega arith; above = drop-set-lt (n + 1) log n v (omega arith) }
 
-pub emitted : (fuel n room v : ℕ) (log arrays : List ℕ) → n < room → room ≤ length log → Emits room v (world fuel n log arrays) (Goes 0) (world fuel (n + 1) (set log n v) arrays)
+pub emitted : (fuel n room v : ℕ) (log arrays : List ℕ) → n < room → room ≤ length log → Emits room v (world fuel n log arrays) F.Next (world fuel (n + 1) (set log n v) arrays)
 unfolding append bind
 emitted fuel n room v log arrays l h =
     record { same = λ ls. rw (length-take-le n log (omega arith), lt-ltb n room l, add-one n, take-suc-set log n v (omega arith)) }
 
-pub no-room : (fuel n room v : ℕ) (log arrays : List ℕ) → room ≤ n → room ≤ length log → Emits room v (world fuel n log arrays) (Trapped log-full) (world fuel n log arrays)
+pub no-room : (fuel n room v : ℕ) (log arrays : List ℕ) → room ≤ n → room ≤ length log → Emits room v (world fuel n log arrays) (F.Trapped log-full) (world fuel n log arrays)
 unfolding append bind
 no-room fuel n room v log arrays l h = record { same = λ ls. rw (le-ltb (length (take n log)) room (take-long room n log l h)) }
+
+-- what is left to do with a value
+
+pub finish-put : (room : ℕ) (ws : List ℕ) (v : ℕ) (ls : List ℕ) (w : World) {k x : ℕ} {ls′ : List ℕ} → k ≡ 0 → x ≡ word ws 1 → ls′ ≡ set ls x v → Finishes room k ws v ls w F.Next ls′ w
+unfolding finishes assign bind
+finish-put room ws v ls w e g h = record { same = rw (e, ← g, h) }
+
+pub finish-give : (room : ℕ) (ws : List ℕ) (v : ℕ) (ls : List ℕ) (w : World) {k : ℕ} → k ≡ 5 → Finishes room k ws v ls w (F.Returned v) ls w
+unfolding finishes
+finish-give room ws v ls w e = record { same = rw e }
+
+pub finish-emit : (ws ls : List ℕ) {room v k : ℕ} {w w′ : World} {fl : Flow} → k ≡ 6 → Emits room v w fl w′ → Finishes room k ws v ls w fl ls w′
+unfolding finishes
+finish-emit ws ls e x = record { same = rw e (x .same ls) }
+
+pub finish-drop : (room : ℕ) (ws : List ℕ) (v : ℕ) (ls : List ℕ) (w : World) {k : ℕ} → (k ≡ 0 → ⊥) → (k ≡ 5 → ⊥) → (k ≡ 6 → ⊥) → Finishes room k ws v ls w F.Next ls w
+unfolding finishes
+finish-drop room ws v ls w {k} a b d = record { same = rw (ne-eqb k 0 a, ne-eqb k 5 b, ne-eqb k 6 d) }
 
 -- the lets
 
@@ -68,14 +89,24 @@ pub record Clearing (work₀ : List ℕ) (a b : ℕ) (work : List ℕ) (i : ℕ)
 
 pub clearing-start : (work : List ℕ) (a b : ℕ) → a ≤ b → b ≤ length work → Clearing work a b work a
 clearing-start work a b l h =
-    record { from = omega arith; to = l; room = h; kept = refl;
-      cleared = sym (append-nil (take a work)) ∙ ap (λ (j : ℕ). take a work ++ replicate j 0) {x = 0} {y = a - a} (omega arith) }
+    record {
+      from = omega arith;
+      to = l;
+      room = h;
+      kept = refl;
+      cleared = sym (append-nil (take a work)) ∙ ap (λ (j : ℕ). take a work ++ replicate j 0) {x = 0} {y = a - a} (omega arith);
+    }
 
 pub clearing-next : {work₀ work : List ℕ} {a b i : ℕ} → Clearing work₀ a b work i → i < b → Clearing work₀ a b (set work i 0) (i + 1)
 clearing-next {work₀} {work} {a} {b} {i} x l =
-    record { from = omega (arith, x .from); to = omega arith; room = omega (arith, x .room, length-set work i 0); kept = length-set work i 0 ∙ x .kept;
+    record {
+      from = omega (arith, x .from);
+      to = omega arith;
+      room = omega (arith, x .room, length-set work i 0);
+      kept = length-set work i 0 ∙ x .kept;
       cleared = rw (add-one i, take-suc-set work i 0 (omega (arith, x .room)), x .cleared, append-assoc) (ap (λ (zs : List ℕ). take a work₀ ++ zs) (replicate-append-replicate (i - a) 1 0 ∙
-        ap (λ (j : ℕ). replicate j 0) {x = i - a + 1} {y = suc i - a} (omega (arith, x .from)))) }
+          ap (λ (j : ℕ). replicate j 0) {x = i - a + 1} {y = suc i - a} (omega (arith, x .from))));
+    }
 
 pub clearing-end : {work₀ work : List ℕ} {a b i : ℕ} → Clearing work₀ a b work i → b ≤ i → take b work ≡ take a work₀ ++ replicate (b - a) 0
 clearing-end {work₀} {work} {a} {b} {i} x l =

@@ -70,9 +70,11 @@ local-none work c x l = sym (List·getD-eq-default (take c work) 0 (omega (arith
 pub push-there : {work : List ℕ} {c h : ℕ} (v : ℕ) → Frame c h work → h < most-operands → Pushes work c h v (Goes 0) (h + 1) (set work (c + h) v)
 unfolding push
 push-there {work} {c} {h} v f l =
-    record { same = λ k ls w. rw (length-operands work c h, lt-ltb h most-operands l, operands-push work c h v (omega (arith, f)));
+    record {
+      same = λ k ls w. rw (length-operands work c h, lt-ltb h most-operands l, operands-push work c h v (omega (arith, f)));
       locals = take-set-le c work (c + h) v (omega arith);
-      fits = omega arith }
+      fits = omega arith;
+    }
 
 pub push-full : {work : List ℕ} {c h : ℕ} (v : ℕ) → Frame c h work → most-operands ≤ h → Pushes work c h v (Trapped malformed) h work
 unfolding push
@@ -103,13 +105,15 @@ module _ {work arrays : List ℕ} {c h : ℕ} (f : Frame c h work) where
   -- a value comes, and is pushed on what is left after n operands
   gone : (n v m : ℕ) {h′ : ℕ} {i : Kind} {o : Out} {work′ : List ℕ} → m ≡ h - n → Pushes work c m v o h′ work′ →
       ((invoke : ℕ → List ℕ → Act ℕ) (k : Onward) (fuel : ℕ) (log : List ℕ) →
-        step invoke i (operandsAt work c h) k (take c work) (record { fuel = fuel; log = log; arrays = arrays }) ≡
-        push (drop n (operandsAt work c h)) k v (take c work) (record { fuel = fuel; log = log; arrays = arrays })) →
+      step invoke i (operandsAt work c h) k (take c work) (record { fuel = fuel; log = log; arrays = arrays }) ≡
+      push (drop n (operandsAt work c h)) k v (take c work) (record { fuel = fuel; log = log; arrays = arrays })) →
       Moves work c h arrays i o 0 h′ work′
   gone n v m {h′} {i} {o} {work′} d p s =
-      record { same = λ invoke k fuel log. s invoke k fuel log ∙ (rw (drop-operands work c h n, ← d) (p .same k (take c work) (record { fuel = fuel; log = log; arrays = arrays }) ∙
-        ap (λ (ls : List ℕ). onwards o (record { fuel = fuel; log = log; arrays = arrays }) (k 0 (operandsAt work′ c h′) ls (record { fuel = fuel; log = log; arrays = arrays }))) (sym (p .locals))));
-        fits = p .fits }
+      record {
+        same = λ invoke k fuel log. s invoke k fuel log ∙ (rw (drop-operands work c h n, ← d) (p .same k (take c work) (record { fuel = fuel; log = log; arrays = arrays }) ∙
+            ap (λ (ls : List ℕ). onwards o (record { fuel = fuel; log = log; arrays = arrays }) (k 0 (operandsAt work′ c h′) ls (record { fuel = fuel; log = log; arrays = arrays }))) (sym (p .locals))));
+        fits = p .fits;
+      }
 
   pub move-number : (a b : ℕ) {k h′ : ℕ} {o : Out} {work′ : List ℕ} → k ≡ 0 → Pushes work c h a o h′ work′ → Moves work c h arrays (kindOf k a b) o 0 h′ work′
   unfolding kindOf step
@@ -149,13 +153,15 @@ module _ {work arrays : List ℕ} {c h : ℕ} (f : Frame c h work) where
   -- the left side decides
   decided : (n v m : ℕ) {h′ : ℕ} {i : Kind} {o : Out} {work′ : List ℕ} → m ≡ h - 1 → Pushes work c m v o h′ work′ →
       ((invoke : ℕ → List ℕ → Act ℕ) (k : Onward) (fuel : ℕ) (log : List ℕ) →
-        step invoke i (operandsAt work c h) k (take c work) (record { fuel = fuel; log = log; arrays = arrays }) ≡
-        push (drop 1 (operandsAt work c h)) (λ _. k n) v (take c work) (record { fuel = fuel; log = log; arrays = arrays })) →
+      step invoke i (operandsAt work c h) k (take c work) (record { fuel = fuel; log = log; arrays = arrays }) ≡
+      push (drop 1 (operandsAt work c h)) (λ _. k n) v (take c work) (record { fuel = fuel; log = log; arrays = arrays })) →
       Moves work c h arrays i o n h′ work′
   decided n v m {h′} {i} {o} {work′} d p s =
-      record { same = λ invoke k fuel log. s invoke k fuel log ∙ (rw (drop-operands work c h 1, ← d) (p .same (λ _. k n) (take c work) (record { fuel = fuel; log = log; arrays = arrays }) ∙
-        ap (λ (ls : List ℕ). onwards o (record { fuel = fuel; log = log; arrays = arrays }) (k n (operandsAt work′ c h′) ls (record { fuel = fuel; log = log; arrays = arrays }))) (sym (p .locals))));
-        fits = p .fits }
+      record {
+        same = λ invoke k fuel log. s invoke k fuel log ∙ (rw (drop-operands work c h 1, ← d) (p .same (λ _. k n) (take c work) (record { fuel = fuel; log = log; arrays = arrays }) ∙
+            ap (λ (ls : List ℕ). onwards o (record { fuel = fuel; log = log; arrays = arrays }) (k n (operandsAt work′ c h′) ls (record { fuel = fuel; log = log; arrays = arrays }))) (sym (p .locals))));
+        fits = p .fits;
+      }
 
   pub and-decided : (n m : ℕ) {v h′ : ℕ} {o : Out} {work′ : List ℕ} → v ≡ top (operandsAt work c h) → v ≡ 0 → m ≡ h - 1 → Pushes work c m 0 o h′ work′ → Moves work c h arrays (and n) o n h′ work′
   unfolding step

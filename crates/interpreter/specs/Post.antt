@@ -4,16 +4,19 @@ use mathlib.Core.Path.{_≡_}
 use mathlib.Core.List.{List, [], _∷_}
 use mathlib.Core.Bool.{Bool, true, false}
 use Prim.Native.Nat.{ℕ, zero, suc, _+_, _*_, _≤_, _<_}
+use lib.Dec.{eqb}
 use lib.ListN.{length, getD, take, drop}
 use Rattle.word.specs.Choice.{pick}
 use Rattle.language.specs.Rules.{most-locals}
 use Rattle.language.specs.Core.{Array}
-use Rattle.language.specs.Meaning.{World, Result, goes, stops, Stop, trapped, outOfFuel, Act, bind, value, branch, write, append, Flow, next, returned}
+use Rattle.language.specs.Meaning.{World, Result, goes, stops, Stop, trapped, outOfFuel, Act, bind, _>>_, value, branch, write, assign, append, Flow, next, returned}
 use Rattle.flat.specs.Items.{Kind, call, unknown, top, Onward, push, most-operands, step, scan, evaluate}
 use Rattle.flat.specs.Statements.{fexec, fblock, fcallAt}
 use Rattle.flat.specs.Words.{unaries, stricts, kindOf, itemsOf, word, first-end, second, statementOf, functionOf, blockOf, most-nesting}
 use Rattle.interpreter.specs.declared.Out.{Out}
 use Rattle.interpreter.specs.declared.Out.the-variants.{Goes, Trapped, OutOfFuel}
+use Rattle.interpreter.specs.declared.Flow as D
+use Rattle.interpreter.specs.declared.Flow.the-variants as F
 
 -- the world that fuel, a log of so many words and arrays are
 abbrev pub world : ℕ → ℕ → List ℕ → List ℕ → World
@@ -90,11 +93,25 @@ pub record Grows (n : ℕ) (log : List ℕ) (n′ : ℕ) (log′ : List ℕ) : T
   pub more : n ≤ n′
   pub above : drop n′ log′ ≡ drop n′ log
 
--- what a statement's outcome comes to, by whether the function has returned
-abbrev pub flows : Bool → Out → List ℕ → World → Result Flow
-flows back (Goes v) ls w = goes (pick back (returned v) next) ls w
-flows back (Trapped n) ls w = stops (trapped n) w
-flows back OutOfFuel ls w = stops outOfFuel w
+-- where a statement leads
+abbrev pub flows : D.Flow → List ℕ → World → Result Flow
+flows F.Next ls w = goes next ls w
+flows (F.Returned v) ls w = goes (returned v) ls w
+flows (F.Trapped n) ls w = stops (trapped n) w
+flows F.OutOfFuel ls w = stops outOfFuel w
+
+-- where a statement leads whose expression has stopped
+abbrev pub haltedOf : Out → D.Flow
+haltedOf (Goes v) = F.Next
+haltedOf (Trapped n) = F.Trapped n
+haltedOf OutOfFuel = F.OutOfFuel
+
+-- what a call gives by where its body led: 0 where it returned nothing
+abbrev pub resultOf : D.Flow → Out
+resultOf F.Next = Goes 0
+resultOf (F.Returned v) = Goes v
+resultOf (F.Trapped n) = Trapped n
+resultOf F.OutOfFuel = OutOfFuel
 
 -- one item of a scan with n items from ws on still to do: n′ from ws′ on are left
 pub record Steps (t : List ℕ) (room left n : ℕ) (ws : List ℕ) (c h : ℕ) (work : List ℕ) (w : World) (o : Out) (n′ : ℕ) (ws′ : List ℕ) (h′ : ℕ) (work′ : List ℕ) (w′ : World) : Type 0 where
@@ -117,24 +134,32 @@ pub record Scans (t : List ℕ) (room left n : ℕ) (ws ls : List ℕ) (w : Worl
   pub same : evaluate (invokeOf t room left) (itemsOf n ws) ls w ≡ valueOf o ls′ w′
 
 -- n statements from ws on, where blocks may nest so deep
-pub record Blocks (t : List ℕ) (room left depth n : ℕ) (ws ls : List ℕ) (w : World) (back : Bool) (o : Out) (ls′ : List ℕ) (w′ : World) : Type 0 where
-  pub same : fblock room (invokeOf t room left) (blockOf depth n ws) ls w ≡ flows back o ls′ w′
+pub record Blocks (t : List ℕ) (room left depth n : ℕ) (ws ls : List ℕ) (w : World) (fl : D.Flow) (ls′ : List ℕ) (w′ : World) : Type 0 where
+  pub same : fblock room (invokeOf t room left) (blockOf depth n ws) ls w ≡ flows fl ls′ w′
 
 -- the statement at ws
-pub record Execs (t : List ℕ) (room left depth : ℕ) (ws ls : List ℕ) (w : World) (back : Bool) (o : Out) (ls′ : List ℕ) (w′ : World) : Type 0 where
-  pub same : fexec room (invokeOf t room left) (statementOf (blockOf depth) (word ws 0) ws) ls w ≡ flows back o ls′ w′
+pub record Execs (t : List ℕ) (room left depth : ℕ) (ws ls : List ℕ) (w : World) (fl : D.Flow) (ls′ : List ℕ) (w′ : World) : Type 0 where
+  pub same : fexec room (invokeOf t room left) (statementOf (blockOf depth) (word ws 0) ws) ls w ≡ flows fl ls′ w′
 
 -- the rest of the statement at ws after its first expression's value: the block that it chooses; the second expression, and the element set
-pub record Chooses (t : List ℕ) (room left depth : ℕ) (ws : List ℕ) (v : ℕ) (ls : List ℕ) (w : World) (back : Bool) (o : Out) (ls′ : List ℕ) (w′ : World) : Type 0 where
+pub record Chooses (t : List ℕ) (room left depth : ℕ) (ws : List ℕ) (v : ℕ) (ls : List ℕ) (w : World) (fl : D.Flow) (ls′ : List ℕ) (w′ : World) : Type 0 where
   pub same : branch v (fblock room (invokeOf t room left) (blockOf depth (word ws 5) (drop (first-end ws) ws)))
-      (fblock room (invokeOf t room left) (blockOf depth (word ws 6) (drop (first-end ws + word ws 1) ws))) ls w ≡ flows back o ls′ w′
+      (fblock room (invokeOf t room left) (blockOf depth (word ws 6) (drop (first-end ws + word ws 1) ws))) ls w ≡ flows fl ls′ w′
 
-pub record Stores (t : List ℕ) (room left : ℕ) (ws : List ℕ) (i : ℕ) (ls : List ℕ) (w : World) (o : Out) (ls′ : List ℕ) (w′ : World) : Type 0 where
-  pub same : bind (evaluate (invokeOf t room left) (second ws) ls w) (λ v ls₁ w₁. bind (write (record { offset = word ws 1; size = word ws 2 }) i v ls₁ w₁) (λ _. value next)) ≡ flows false o ls′ w′
+pub record Stores (t : List ℕ) (room left : ℕ) (ws : List ℕ) (i : ℕ) (ls : List ℕ) (w : World) (fl : D.Flow) (ls′ : List ℕ) (w′ : World) : Type 0 where
+  pub same : bind (evaluate (invokeOf t room left) (second ws) ls w) (λ v ls₁ w₁. bind (write (record { offset = word ws 1; size = word ws 2 }) i v ls₁ w₁) (λ _. value next)) ≡ flows fl ls′ w′
 
 -- a value logged
-pub record Emits (room v : ℕ) (w : World) (o : Out) (w′ : World) : Type 0 where
-  pub same : (ls : List ℕ) → bind (append room v ls w) (λ _. value next) ≡ flows false o ls w′
+pub record Emits (room v : ℕ) (w : World) (fl : D.Flow) (w′ : World) : Type 0 where
+  pub same : (ls : List ℕ) → bind (append room v ls w) (λ _. value next) ≡ flows fl ls w′
+
+-- what is left to do with the value of a statement of kind k, of those with one expression and no block
+unfoldable pub finishes : ℕ → ℕ → List ℕ → ℕ → Act Flow
+finishes room k ws v =
+    pick (eqb k 0) (assign (word ws 1) v >> value next) (pick (eqb k 5) (value (returned v)) (pick (eqb k 6) (append room v >> value next) (value next)))
+
+pub record Finishes (room k : ℕ) (ws : List ℕ) (v : ℕ) (ls : List ℕ) (w : World) (fl : D.Flow) (ls′ : List ℕ) (w′ : World) : Type 0 where
+  pub same : finishes room k ws v ls w ≡ flows fl ls′ w′
 
 -- function f's words: where its body is, how many statements it has, its lets
 pub record Heads (t : List ℕ) (f place statements lets : ℕ) : Type 0 where

@@ -7,11 +7,15 @@ ghost use Rattle.flat.specs.Items.{element as elementOf, and as andOf, or as or
 ghost use Rattle.flat.specs.Words.{kindOf, unaries, stricts};
 ghost use Rattle.interpreter.specs.Post.{Frame, Moves};
 use crate::Out;
-use crate::operands::{below, local, push, top};
-use crate::operators::{strict, unary};
+use crate::operands::below;
+use crate::operands::local;
+use crate::operands::push;
+use crate::operands::top;
+use crate::operators::strict;
+use crate::operators::unary;
 use crate::words::word;
-use flat::item::{AND, ELEMENT, JOIN, LOCAL, NUMBER, OR, STRICT, UNARY};
-use flat::program::MALFORMED;
+use flat::item;
+use flat::program;
 
 const INDEX_OUTSIDE: u32 = 2;
 
@@ -32,9 +36,17 @@ pub fn element(offset: u32, size: u32, work: &mut [u32], arrays: &[u32], c: usiz
         let v = word(arrays, offset as usize + i as usize);
         let p = push(work, c, below(h, 1), v);
         let out = p.out;
-        return Move { out, skip: 0, h: p.h };
+        return Move {
+            out,
+            skip: 0,
+            h: p.h,
+        };
     }
-    Move { out: Out::Trapped(INDEX_OUTSIDE), skip: 0, h }
+    Move {
+        out: Out::Trapped(INDEX_OUTSIDE),
+        skip: 0,
+        h,
+    }
 }
 
 // An operator with one side.
@@ -48,7 +60,11 @@ pub fn one_side(op: u32, work: &mut [u32], c: usize, h: usize) -> Move
     };
     let p = push(work, c, below(h, 1), v);
     let out = p.out;
-    Move { out, skip: 0, h: p.h }
+    Move {
+        out,
+        skip: 0,
+        h: p.h,
+    }
 }
 
 // An operator with two sides.
@@ -64,7 +80,11 @@ pub fn two_sides(op: u32, work: &mut [u32], c: usize, h: usize) -> Move
     };
     let p = push(work, c, below(h, 2), v);
     let out = p.out;
-    Move { out, skip: 0, h: p.h }
+    Move {
+        out,
+        skip: 0,
+        h: p.h,
+    }
 }
 
 // Between the sides of `&&`: if the left one is false, so is the whole.
@@ -78,7 +98,11 @@ pub fn and(skip: u32, work: &mut [u32], c: usize, h: usize) -> Move
         let out = p.out;
         return Move { out, skip, h: p.h };
     }
-    Move { out: Out::Goes(0), skip: 0, h: m }
+    Move {
+        out: Out::Goes(0),
+        skip: 0,
+        h: m,
+    }
 }
 
 // Between the sides of `||`: if the left one is true, so is the whole.
@@ -88,7 +112,11 @@ pub fn or(skip: u32, work: &mut [u32], c: usize, h: usize) -> Move
 {
     let m = below(h, 1);
     if top(work, c, h) == 0 {
-        return Move { out: Out::Goes(0), skip: 0, h: m };
+        return Move {
+            out: Out::Goes(0),
+            skip: 0,
+            h: m,
+        };
     }
     let p = push(work, c, m, 1);
     let out = p.out;
@@ -101,23 +129,39 @@ pub fn act(k: u32, a: u32, b: u32, work: &mut [u32], arrays: &[u32], c: usize, h
     ensures { λ r. ⌜ Moves (now (work .entry)) c h (now (arrays .entry)) (kindOf k a b) (r .out) (r .skip) (r .h) (now (work .exit)) ⌝ }
 {
     match k {
-        NUMBER => {
+        item::NUMBER => {
             let p = push(work, c, h, a);
             let out = p.out;
-            Move { out, skip: 0, h: p.h }
+            Move {
+                out,
+                skip: 0,
+                h: p.h,
+            }
         }
-        LOCAL => {
+        item::LOCAL => {
             let v = local(work, c, a);
             let p = push(work, c, h, v);
             let out = p.out;
-            Move { out, skip: 0, h: p.h }
+            Move {
+                out,
+                skip: 0,
+                h: p.h,
+            }
         }
-        ELEMENT => element(a, b, work, arrays, c, h),
-        UNARY => one_side(a, work, c, h),
-        STRICT => two_sides(a, work, c, h),
-        AND => and(a, work, c, h),
-        OR => or(a, work, c, h),
-        JOIN => Move { out: Out::Goes(0), skip: 0, h },
-        _ => Move { out: Out::Trapped(MALFORMED), skip: 0, h },
+        item::ELEMENT => element(a, b, work, arrays, c, h),
+        item::UNARY => one_side(a, work, c, h),
+        item::STRICT => two_sides(a, work, c, h),
+        item::AND => and(a, work, c, h),
+        item::OR => or(a, work, c, h),
+        item::JOIN => Move {
+            out: Out::Goes(0),
+            skip: 0,
+            h,
+        },
+        _ => Move {
+            out: Out::Trapped(program::MALFORMED),
+            skip: 0,
+            h,
+        },
     }
 }

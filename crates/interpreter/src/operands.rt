@@ -6,8 +6,8 @@ ghost use Rattle.flat.specs.Items.{top as topOf};
 ghost use Rattle.interpreter.specs.Post.{Frame, operandsAt, Pushes};
 use crate::Out;
 use crate::words::word;
-use flat::item::MOST_OPERANDS;
-use flat::program::MALFORMED;
+use flat::item;
+use flat::program;
 
 // What a push leaves: how far it came, and how many operands there are.
 pub struct Pushed {
@@ -26,7 +26,11 @@ pub fn below(h: usize, n: usize) -> usize
 pub fn local(work: &[u32], c: usize, x: u32) -> u32
     ensures { λ r. ⌜ r ≡ getD (take c (now (work .entry))) x 0 ⌝ }
 {
-    if (x as usize) < c { word(work, x as usize) } else { 0 }
+    if (x as usize) < c {
+        word(work, x as usize)
+    } else {
+        0
+    }
 }
 
 // The uppermost operand; without one it is 0.
@@ -42,9 +46,15 @@ pub fn push(work: &mut [u32], c: usize, h: usize, v: u32) -> Pushed
     requires { ⌜ Frame c h (now work) ⌝ }
     ensures { λ r. ⌜ Pushes (now (work .entry)) c h v (r .out) (r .h) (now (work .exit)) ⌝ }
 {
-    if h < MOST_OPERANDS {
+    if h < item::MOST_OPERANDS {
         work[c + h] = v;
-        return Pushed { out: Out::Goes(0), h: h + 1 };
+        return Pushed {
+            out: Out::Goes(0),
+            h: h + 1,
+        };
     }
-    Pushed { out: Out::Trapped(MALFORMED), h }
+    Pushed {
+        out: Out::Trapped(program::MALFORMED),
+        h,
+    }
 }

@@ -17,7 +17,11 @@ pub fn field(ws: &[u32], p: usize, i: u32) -> u32
     if n <= p {
         return 0;
     }
-    if (i as usize) < n - p { ws[p + i as usize] } else { 0 }
+    if (i as usize) < n - p {
+        ws[p + i as usize]
+    } else {
+        0
+    }
 }
 
 // The place n words after p, or the end.

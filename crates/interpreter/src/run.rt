@@ -1,1 +1,0 @@
-// Expressions, statements, blocks and calls, each by a scan forward over its words.
