@@ -2,3 +2,4 @@ pub mod Lists
 pub mod Operate
 pub mod Moving
 pub mod Changing
+pub mod Running

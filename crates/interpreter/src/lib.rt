@@ -4,6 +4,7 @@ pub mod operators; // operators by their numbers
 pub mod operands; // an activation's locals and operands
 pub mod items; // items that call nothing
 pub mod state; // what statements change
+pub mod run; // expressions, statements, blocks and calls
 
 // How far an expression or a call came: it goes on with a value, or it has stopped.
 pub enum Out {
