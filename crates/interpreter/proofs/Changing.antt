@@ -37,19 +37,20 @@ unassigned work c x v l = sym (set-out (take c work) x v (omega (arith, take-sho
 
 -- the log
 
-pub grows-same : (n : ℕ) (log : List ℕ) → Grows n log n log
-grows-same n log = record { more = omega arith; above = refl }
+pub grows-same : (room n : ℕ) (log : List ℕ) → Grows room n log n log
+grows-same room n log = record { more = omega arith; above = refl; within = λ l. l }
 
 drop-more : (n m : ℕ) (us vs : List ℕ) → n ≤ m → drop n us ≡ drop n vs → drop m us ≡ drop m vs
 drop-more n m us vs l e =
     let q : n + (m - n) ≡ m = omega arith in
     ap (λ (j : ℕ). drop j us) (sym q) ∙ (sym (drop-drop (m - n) n us) ∙ (ap (drop (m - n)) e ∙ (drop-drop (m - n) n vs ∙ ap (λ (j : ℕ). drop j vs) q)))
 
-pub grows-on : {n₁ n₂ n₃ : ℕ} {l₁ l₂ l₃ : List ℕ} → Grows n₁ l₁ n₂ l₂ → Grows n₂ l₂ n₃ l₃ → Grows n₁ l₁ n₃ l₃
-grows-on {n₁} {n₂} {n₃} {l₁} {l₂} {l₃} x y = record { more = omega (arith, x .more, y .more); above = y .above ∙ drop-more n₂ n₃ l₂ l₁ (y .more) (x .above) }
+pub grows-on : {room n₁ n₂ n₃ : ℕ} {l₁ l₂ l₃ : List ℕ} → Grows room n₁ l₁ n₂ l₂ → Grows room n₂ l₂ n₃ l₃ → Grows room n₁ l₁ n₃ l₃
+grows-on {room} {n₁} {n₂} {n₃} {l₁} {l₂} {l₃} x y =
+    record { more = omega (arith, x .more, y .more); above = y .above ∙ drop-more n₂ n₃ l₂ l₁ (y .more) (x .above); within = λ l. y .within (x .within l) }
 
-pub emitted-grows : (n v : ℕ) (log : List ℕ) → Grows n log (n + 1) (set log n v)
-emitted-grows n v log = record { more = omega arith; above = drop-set-lt (n + 1) log n v (omega arith) }
+pub emitted-grows : (room n v : ℕ) (log : List ℕ) → n < room → Grows room n log (n + 1) (set log n v)
+emitted-grows room n v log l = record { more = omega arith; above = drop-set-lt (n + 1) log n v (omega arith); within = λ _. omega arith }
 
 pub emitted : (fuel n room v : ℕ) (log arrays : List ℕ) → n < room → room ≤ length log → Emits room v (world fuel n log arrays) F.Next (world fuel (n + 1) (set log n v) arrays)
 unfolding append bind

@@ -239,7 +239,7 @@ popped-are work c (suc n) (suc h) more l k =
 pub arguments-are : (work : List ℕ) (c n h : ℕ) → n ≤ h → c + h ≤ length work → popped n (operandsAt work c h) [] ≡ take n (take (length work - (c + (h - n))) (drop (c + (h - n)) work))
 arguments-are work c n h l k =
     popped-are work c n h [] l k ∙ (append-nil (take n (drop (c + (h - n)) work)) ∙
-      ap (take n) (sym (take-all (length work - (c + (h - n))) (drop (c + (h - n)) work) (omega (arith, length-drop (c + (h - n)) work)))))
+    ap (take n) (sym (take-all (length work - (c + (h - n))) (drop (c + (h - n)) work) (omega (arith, length-drop (c + (h - n)) work)))))
 
 -- a room that another has kept below a
 pub record Below (a : ℕ) (work us : List ℕ) : Type 0 where
@@ -272,8 +272,10 @@ module _ (t : List ℕ) (room left f n c h : ℕ) (work : List ℕ) (w : World) 
     enter-back {v} {h′} {us} {work′} {o′} z b p =
         let e : operandsAt work c (h - n) ≡ operandsAt us c (h - n) = sym (operands-same work us c (h - n) (below-at b)) in
         let g : take c work ≡ take c work′ = sym (p .locals ∙ below-take b c (omega arith)) in
-        record { same = λ k. rw (length-operands work c h, le-ltb h n l, ev, x .same (take c work), z, drop-operands work c h n, e) (p .same k (take c work) w′ ∙ ap (λ (ls : List ℕ). onwards o′ w′ (k 0 (operandsAt work′ c h′) ls w′)) g);
-          fits = p .fits }
+        record {
+          same = λ k. rw (length-operands work c h, le-ltb h n l, ev, x .same (take c work), z, drop-operands work c h n, e) (p .same k (take c work) w′ ∙ ap (λ (ls : List ℕ). onwards o′ w′ (k 0 (operandsAt work′ c h′) ls w′)) g);
+          fits = p .fits;
+        }
 
 -- Statements
 

@@ -9,14 +9,16 @@ use lib.ListN.{length, getD, take, drop}
 use Rattle.word.specs.Choice.{pick}
 use Rattle.language.specs.Rules.{most-locals}
 use Rattle.language.specs.Core.{Array}
-use Rattle.language.specs.Meaning.{World, Result, goes, stops, Stop, trapped, outOfFuel, Act, bind, _>>_, value, branch, write, assign, append, Flow, next, returned}
+use Rattle.language.specs.Meaning.{World, Result, goes, stops, Stop, trapped, outOfFuel, Act, bind, _>>_, value, branch, write, assign, append, Flow, next, returned, Outcome, finished, stopped, Run}
 use Rattle.flat.specs.Items.{Kind, call, unknown, top, Onward, push, most-operands, step, scan, evaluate}
 use Rattle.flat.specs.Statements.{fexec, fblock, fcallAt}
-use Rattle.flat.specs.Words.{unaries, stricts, kindOf, itemsOf, word, first-end, second, statementOf, functionOf, blockOf, most-nesting}
+use Rattle.flat.specs.Words.{unaries, stricts, kindOf, itemsOf, word, a, b, first-count, second-count, first-end, second, statementOf, functionOf, blockOf, most-nesting, flatRun}
 use Rattle.interpreter.specs.declared.Out.{Out}
 use Rattle.interpreter.specs.declared.Out.the-variants.{Goes, Trapped, OutOfFuel}
 use Rattle.interpreter.specs.declared.Flow as D
 use Rattle.interpreter.specs.declared.Flow.the-variants as F
+use Rattle.interpreter.specs.declared.Outcome as O
+use Rattle.interpreter.specs.declared.Outcome.the-variants as E
 
 -- the world that fuel, a log of so many words and arrays are
 abbrev pub world : ℕ → ℕ → List ℕ → List ℕ → World
@@ -88,10 +90,11 @@ pub record Callable (n left room : ℕ) (work log : List ℕ) : Type 0 where
   pub frames : frame-words * left ≤ length work
   pub logs : room ≤ length log
 
--- what stands in the log above the words that are logged stays
-pub record Grows (n : ℕ) (log : List ℕ) (n′ : ℕ) (log′ : List ℕ) : Type 0 where
+-- the log from n words on to n′: what stands above them stays, and there are no more than it has room for
+pub record Grows (room n : ℕ) (log : List ℕ) (n′ : ℕ) (log′ : List ℕ) : Type 0 where
   pub more : n ≤ n′
   pub above : drop n′ log′ ≡ drop n′ log
+  pub within : n ≤ room → n′ ≤ room
 
 -- where a statement leads
 abbrev pub flows : D.Flow → List ℕ → World → Result Flow
@@ -143,11 +146,11 @@ pub record Execs (t : List ℕ) (room left depth : ℕ) (ws ls : List ℕ) (w : 
 
 -- the rest of the statement at ws after its first expression's value: the block that it chooses; the second expression, and the element set
 pub record Chooses (t : List ℕ) (room left depth : ℕ) (ws : List ℕ) (v : ℕ) (ls : List ℕ) (w : World) (fl : D.Flow) (ls′ : List ℕ) (w′ : World) : Type 0 where
-  pub same : branch v (fblock room (invokeOf t room left) (blockOf depth (word ws 5) (drop (first-end ws) ws)))
-      (fblock room (invokeOf t room left) (blockOf depth (word ws 6) (drop (first-end ws + word ws 1) ws))) ls w ≡ flows fl ls′ w′
+  pub same : branch v (fblock room (invokeOf t room left) (blockOf depth (first-count ws) (drop (first-end ws) ws)))
+      (fblock room (invokeOf t room left) (blockOf depth (second-count ws) (drop (first-end ws + a ws) ws))) ls w ≡ flows fl ls′ w′
 
 pub record Stores (t : List ℕ) (room left : ℕ) (ws : List ℕ) (i : ℕ) (ls : List ℕ) (w : World) (fl : D.Flow) (ls′ : List ℕ) (w′ : World) : Type 0 where
-  pub same : bind (evaluate (invokeOf t room left) (second ws) ls w) (λ v ls₁ w₁. bind (write (record { offset = word ws 1; size = word ws 2 }) i v ls₁ w₁) (λ _. value next)) ≡ flows fl ls′ w′
+  pub same : bind (evaluate (invokeOf t room left) (second ws) ls w) (λ v ls₁ w₁. bind (write (record { offset = a ws; size = b ws }) i v ls₁ w₁) (λ _. value next)) ≡ flows fl ls′ w′
 
 -- a value logged
 pub record Emits (room v : ℕ) (w : World) (fl : D.Flow) (w′ : World) : Type 0 where
@@ -156,7 +159,7 @@ pub record Emits (room v : ℕ) (w : World) (fl : D.Flow) (w′ : World) : Type 
 -- what is left to do with the value of a statement of kind k, of those with one expression and no block
 unfoldable pub finishes : ℕ → ℕ → List ℕ → ℕ → Act Flow
 finishes room k ws v =
-    pick (eqb k 0) (assign (word ws 1) v >> value next) (pick (eqb k 5) (value (returned v)) (pick (eqb k 6) (append room v >> value next) (value next)))
+    pick (eqb k 0) (assign (a ws) v >> value next) (pick (eqb k 5) (value (returned v)) (pick (eqb k 6) (append room v >> value next) (value next)))
 
 pub record Finishes (room k : ℕ) (ws : List ℕ) (v : ℕ) (ls : List ℕ) (w : World) (fl : D.Flow) (ls′ : List ℕ) (w′ : World) : Type 0 where
   pub same : finishes room k ws v ls w ≡ flows fl ls′ w′
@@ -165,3 +168,25 @@ pub record Finishes (room k : ℕ) (ws : List ℕ) (v : ℕ) (ls : List ℕ) (w 
 pub record Heads (t : List ℕ) (f place statements lets : ℕ) : Type 0 where
   pub body : functionOf t f .body ≡ blockOf most-nesting statements (drop place t)
   pub locals : functionOf t f .lets ≡ lets
+
+-- The whole
+
+-- the room that 64 activations take
+abbrev pub working-room : ℕ
+working-room = 24832
+
+abbrev pub outcomeOf : O.Outcome → Outcome
+outcomeOf E.Finished = finished
+outcomeOf (E.Trapped n) = stopped (trapped n)
+outcomeOf E.OutOfFuel = stopped outOfFuel
+
+abbrev pub endedOf : Out → O.Outcome
+endedOf (Goes v) = E.Finished
+endedOf (Trapped n) = E.Trapped n
+endedOf OutOfFuel = E.OutOfFuel
+
+-- a run of the words t: its outcome, fuel, log and arrays; the log stands first in its buffer, and the rest of that is as it was
+pub record Runs (t : List ℕ) (room fuel : ℕ) (arrays log : List ℕ) (o : O.Outcome) (fuel′ logged : ℕ) (arrays′ log′ : List ℕ) : Type 0 where
+  pub same : flatRun t arrays fuel room ≡ record { outcome = outcomeOf o; world = world fuel′ logged log′ arrays′ }
+  pub within : logged ≤ room
+  pub above : drop logged log′ ≡ drop logged log

@@ -32,7 +32,7 @@ pub struct Emitted {
 pub fn emit(log: &mut [u32], room: usize, logged: usize, v: u32) -> Emitted
     requires { ⌜ room ≤ length (now log) ⌝ }
     ensures { λ r. ⌜ ((fuel : ℕ) (arrays : List ℕ) → Emits room v (world fuel logged (now (log .entry)) arrays) (r .flow) (world fuel (r .logged) (now (log .exit)) arrays)) ⌝ }
-    ensures { λ r. ⌜ Grows logged (now (log .entry)) (r .logged) (now (log .exit)) ⌝ }
+    ensures { λ r. ⌜ Grows room logged (now (log .entry)) (r .logged) (now (log .exit)) ⌝ }
 {
     if logged < room {
         log[logged] = v;
@@ -62,7 +62,7 @@ pub fn finish(
     requires { ⌜ room ≤ length (now log) ⌝ }
     ensures { λ r. ⌜ ((fuel : ℕ) (arrays : List ℕ) → Finishes room k (drop p (now (words .entry))) v (take c (now (work .entry))) (world fuel logged (now (log .entry)) arrays)
         (r .flow) (take c (now (work .exit))) (world fuel (r .logged) (now (log .exit)) arrays)) ⌝ }
-    ensures { λ r. ⌜ Grows logged (now (log .entry)) (r .logged) (now (log .exit)) ⌝ }
+    ensures { λ r. ⌜ Grows room logged (now (log .entry)) (r .logged) (now (log .exit)) ⌝ }
 {
     match k {
         statement::PUT => {

@@ -20,10 +20,10 @@ same-length : tie.Need-same-length
 same-length c = search needs
 
 returns : tie.Need-returns
-returns c = ((λ fuel arrays. L.emitted _ _ _ _ _ _ (c .if1 .taken) (c .before .pre)), L.emitted-grows _ _ _)
+returns c = ((λ fuel arrays. L.emitted _ _ _ _ _ _ (c .if1 .taken) (c .before .pre)), L.emitted-grows _ _ _ _ (c .if1 .taken))
 
 returns-2 : tie.Need-returns-2
-returns-2 c = ((λ fuel arrays. L.no-room _ _ _ _ _ _ (c .if1 .left) (c .before .pre)), L.grows-same _ _)
+returns-2 c = ((λ fuel arrays. L.no-room _ _ _ _ _ _ (c .if1 .left) (c .before .pre)), L.grows-same _ _ _)
 
 pub emit-spec : {M : Type 1} → statement M
 emit-spec = tie.close (tie.spec mul-log slice-write-log add-t6 same-length returns returns-2)

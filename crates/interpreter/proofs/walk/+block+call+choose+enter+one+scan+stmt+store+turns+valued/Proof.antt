@@ -11,36 +11,36 @@ use Rattle.interpreter.proofs.Changing as C
 use Rattle.interpreter.proofs.Running as L
 use borrow.Fn.Kinds.{In}
 use borrow.Fn.PlainCycle.{Measures, is, falls, and}
-use Rattle.interpreter.proofs.run.block.Reads as block
-use Rattle.interpreter.proofs.run.block.Kinds as block-kinds
-use Rattle.interpreter.proofs.run.+block+call+choose+enter+one+scan+stmt+store+turns+valued.Lts-block as block-lts
-use Rattle.interpreter.proofs.run.call.Reads as call
-use Rattle.interpreter.proofs.run.call.Kinds as call-kinds
-use Rattle.interpreter.proofs.run.+block+call+choose+enter+one+scan+stmt+store+turns+valued.Lts-call as call-lts
-use Rattle.interpreter.proofs.run.choose.Reads as choose
-use Rattle.interpreter.proofs.run.choose.Kinds as choose-kinds
-use Rattle.interpreter.proofs.run.+block+call+choose+enter+one+scan+stmt+store+turns+valued.Lts-choose as choose-lts
-use Rattle.interpreter.proofs.run.enter.Reads as enter
-use Rattle.interpreter.proofs.run.enter.Kinds as enter-kinds
-use Rattle.interpreter.proofs.run.+block+call+choose+enter+one+scan+stmt+store+turns+valued.Lts-enter as enter-lts
-use Rattle.interpreter.proofs.run.one.Reads as one
-use Rattle.interpreter.proofs.run.one.Kinds as one-kinds
-use Rattle.interpreter.proofs.run.+block+call+choose+enter+one+scan+stmt+store+turns+valued.Lts-one as one-lts
-use Rattle.interpreter.proofs.run.scan.Reads as scan
-use Rattle.interpreter.proofs.run.scan.Kinds as scan-kinds
-use Rattle.interpreter.proofs.run.+block+call+choose+enter+one+scan+stmt+store+turns+valued.Lts-scan as scan-lts
-use Rattle.interpreter.proofs.run.stmt.Reads as stmt
-use Rattle.interpreter.proofs.run.stmt.Kinds as stmt-kinds
-use Rattle.interpreter.proofs.run.+block+call+choose+enter+one+scan+stmt+store+turns+valued.Lts-stmt as stmt-lts
-use Rattle.interpreter.proofs.run.store.Reads as store
-use Rattle.interpreter.proofs.run.store.Kinds as store-kinds
-use Rattle.interpreter.proofs.run.+block+call+choose+enter+one+scan+stmt+store+turns+valued.Lts-store as store-lts
-use Rattle.interpreter.proofs.run.turns.Reads as turns
-use Rattle.interpreter.proofs.run.turns.Kinds as turns-kinds
-use Rattle.interpreter.proofs.run.+block+call+choose+enter+one+scan+stmt+store+turns+valued.Lts-turns as turns-lts
-use Rattle.interpreter.proofs.run.valued.Reads as valued
-use Rattle.interpreter.proofs.run.valued.Kinds as valued-kinds
-use Rattle.interpreter.proofs.run.+block+call+choose+enter+one+scan+stmt+store+turns+valued.Lts-valued as valued-lts
+use Rattle.interpreter.proofs.walk.block.Reads as block
+use Rattle.interpreter.proofs.walk.block.Kinds as block-kinds
+use Rattle.interpreter.proofs.walk.+block+call+choose+enter+one+scan+stmt+store+turns+valued.Lts-block as block-lts
+use Rattle.interpreter.proofs.walk.call.Reads as call
+use Rattle.interpreter.proofs.walk.call.Kinds as call-kinds
+use Rattle.interpreter.proofs.walk.+block+call+choose+enter+one+scan+stmt+store+turns+valued.Lts-call as call-lts
+use Rattle.interpreter.proofs.walk.choose.Reads as choose
+use Rattle.interpreter.proofs.walk.choose.Kinds as choose-kinds
+use Rattle.interpreter.proofs.walk.+block+call+choose+enter+one+scan+stmt+store+turns+valued.Lts-choose as choose-lts
+use Rattle.interpreter.proofs.walk.enter.Reads as enter
+use Rattle.interpreter.proofs.walk.enter.Kinds as enter-kinds
+use Rattle.interpreter.proofs.walk.+block+call+choose+enter+one+scan+stmt+store+turns+valued.Lts-enter as enter-lts
+use Rattle.interpreter.proofs.walk.one.Reads as one
+use Rattle.interpreter.proofs.walk.one.Kinds as one-kinds
+use Rattle.interpreter.proofs.walk.+block+call+choose+enter+one+scan+stmt+store+turns+valued.Lts-one as one-lts
+use Rattle.interpreter.proofs.walk.scan.Reads as scan
+use Rattle.interpreter.proofs.walk.scan.Kinds as scan-kinds
+use Rattle.interpreter.proofs.walk.+block+call+choose+enter+one+scan+stmt+store+turns+valued.Lts-scan as scan-lts
+use Rattle.interpreter.proofs.walk.stmt.Reads as stmt
+use Rattle.interpreter.proofs.walk.stmt.Kinds as stmt-kinds
+use Rattle.interpreter.proofs.walk.+block+call+choose+enter+one+scan+stmt+store+turns+valued.Lts-stmt as stmt-lts
+use Rattle.interpreter.proofs.walk.store.Reads as store
+use Rattle.interpreter.proofs.walk.store.Kinds as store-kinds
+use Rattle.interpreter.proofs.walk.+block+call+choose+enter+one+scan+stmt+store+turns+valued.Lts-store as store-lts
+use Rattle.interpreter.proofs.walk.turns.Reads as turns
+use Rattle.interpreter.proofs.walk.turns.Kinds as turns-kinds
+use Rattle.interpreter.proofs.walk.+block+call+choose+enter+one+scan+stmt+store+turns+valued.Lts-turns as turns-lts
+use Rattle.interpreter.proofs.walk.valued.Reads as valued
+use Rattle.interpreter.proofs.walk.valued.Kinds as valued-kinds
+use Rattle.interpreter.proofs.walk.+block+call+choose+enter+one+scan+stmt+store+turns+valued.Lts-valued as valued-lts
 use Rattle.interpreter.proofs.items.act.Reads as act-reads
 use Rattle.interpreter.proofs.operands.below.Reads as below-reads
 use Rattle.interpreter.proofs.operands.push.Reads as push-reads
@@ -53,8 +53,8 @@ use Rattle.interpreter.proofs.state.result.Reads as result-reads
 use Rattle.interpreter.proofs.words.field.Reads as field-reads
 use Rattle.interpreter.proofs.words.onward.Reads as onward-reads
 use Rattle.interpreter.proofs.words.put.Reads as put-reads
-use Rattle.interpreter.proofs.run.+block+call+choose+enter+one+scan+stmt+store+turns+valued.{statement}
-use Rattle.interpreter.proofs.run.+block+call+choose+enter+one+scan+stmt+store+turns+valued.Tie.{close}
+use Rattle.interpreter.proofs.walk.+block+call+choose+enter+one+scan+stmt+store+turns+valued.{statement}
+use Rattle.interpreter.proofs.walk.+block+call+choose+enter+one+scan+stmt+store+turns+valued.Tie.{close}
 use borrow.Author.Needs.{needs}
 
 abbrev μ-block : Measures 4 block-kinds.ps ℕ
@@ -148,7 +148,7 @@ abbrev valued-below : ℕ → In 4 valued-kinds.ps
 valued-below t = and 4 valued-kinds.ps (falls 4 valued-kinds.ps _<_ μ-valued t) valued.Pre
 
 abbrev block-Inv-loop : block-lts.InvT-loop
-block-Inv-loop words left depth p n c work₀ arrays₀ log₀ room fuel logged flow q₀ m₀ f₀ l₀ work arrays log q m f l = L.Blocking words room left depth n (drop p words) (take c work₀) (world fuel logged log₀ arrays₀) m (drop q words) (take c work) (world f l log arrays) × L.Lens work₀ work arrays₀ arrays log₀ log × Grows logged log₀ l log
+block-Inv-loop words left depth p n c work₀ arrays₀ log₀ room fuel logged flow q₀ m₀ f₀ l₀ work arrays log q m f l = L.Blocking words room left depth n (drop p words) (take c work₀) (world fuel logged log₀ arrays₀) m (drop q words) (take c work) (world f l log arrays) × L.Lens work₀ work arrays₀ arrays log₀ log × Grows room logged log₀ l log
 
 abbrev block-μ-loop : block-lts.MeasureT-loop
 block-μ-loop words left depth p n c work₀ arrays₀ log₀ room fuel logged flow q₀ m₀ f₀ l₀ work arrays log q m f l = m
@@ -184,10 +184,10 @@ abbrev valued-calls : ℕ → valued-lts.Claims
 valued-calls t = (field-reads.Asked, field-reads.Learnt, onward-reads.Asked, onward-reads.Learnt, scan-below t, scan.Post, halted-reads.Asked, halted-reads.Learnt, store-below t, store.Post, choose-below t, choose.Post, finish-reads.Asked, finish-reads.Learnt)
 
 block-returns : (t : ℕ) → block-lts.Need-returns (block-calls t) (block-at t) block.Post block-Inv-loop block-μ-loop
-block-returns t c = (L.block-none _ _ _ _ _ _ _ _ (c .if1 .taken), C.grows-same _ _)
+block-returns t c = (L.block-none _ _ _ _ _ _ _ _ (c .if1 .taken), C.grows-same _ _ _)
 
 block-loop-holds : (t : ℕ) → block-lts.Need-loop-holds (block-calls t) (block-at t) block.Post block-Inv-loop block-μ-loop
-block-loop-holds t c = (L.blocking-start _ _ _ _ _ _ _ _ (c .if1 .left), record { work-len = refl; arrays-len = refl; log-len = refl }, C.grows-same _ _)
+block-loop-holds t c = (L.blocking-start _ _ _ _ _ _ _ _ (c .if1 .left), record { work-len = refl; arrays-len = refl; log-len = refl }, C.grows-same _ _ _)
 
 block-same-length : (t : ℕ) → block-lts.Need-same-length (block-calls t) (block-at t) block.Post block-Inv-loop block-μ-loop
 block-same-length t c = search needs
@@ -262,7 +262,7 @@ block-returns-4 : (t : ℕ) → block-lts.Need-returns-4 (block-calls t) (block-
 block-returns-4 t c = (L.block-end (c .before .loop .inv .0) (c .loop-test .left), c .before .loop .inv .2)
 
 call-returns : (t : ℕ) → call-lts.Need-returns (call-calls t) (call-at t) call.Post
-call-returns t c = (L.call-deep _ _ _ _ _ _ (c .if1 .taken), C.grows-same _ _)
+call-returns t c = (L.call-deep _ _ _ _ _ _ (c .if1 .taken), C.grows-same _ _ _)
 
 call-function-requires : (t : ℕ) → call-lts.Need-function-requires (call-calls t) (call-at t) call.Post
 call-function-requires t c κs = search needs
@@ -274,7 +274,7 @@ call-add-c : (t : ℕ) → call-lts.Need-add-c (call-calls t) (call-at t) call.P
 call-add-c t c = search needs
 
 call-returns-2 : (t : ℕ) → call-lts.Need-returns-2 (call-calls t) (call-at t) call.Post
-call-returns-2 t c = (L.call-malformed _ _ _ _ _ _ _ (c .before .before .before .if1 .left) refl (c .before .before .function .ensures) (length-take-le (c .before .before .before .before .before .before .before .before .args .n) (c .before .before .before .before .before .before .before .before .args .work .now) (c .before .before .before .before .before .before .before .before .pre .1 .arguments)) refl (c .if2 .taken), C.grows-same _ _)
+call-returns-2 t c = (L.call-malformed _ _ _ _ _ _ _ (c .before .before .before .if1 .left) refl (c .before .before .function .ensures) (length-take-le (c .before .before .before .before .before .before .before .before .args .n) (c .before .before .before .before .before .before .before .before .args .work .now) (c .before .before .before .before .before .before .before .before .pre .1 .arguments)) refl (c .if2 .taken), C.grows-same _ _ _)
 
 call-clear-requires : (t : ℕ) → call-lts.Need-clear-requires (call-calls t) (call-at t) call.Post
 call-clear-requires t c κs = (omega arith, omega (arith, c .before .before .before .before .before .before .before .before .before .pre .1 .frames, c .before .before .before .before .if1 .left, c .before .if2 .left))
@@ -370,7 +370,7 @@ choose-returns-2 : (t : ℕ) → choose-lts.Need-returns-2 (choose-calls t) (cho
 choose-returns-2 t c = (L.choose-so _ _ _ _ _ (c .before .before .before .before .before .before .before .before .before .before .before .before .if1 .left) (c .before .before .before .before .before .before .before .before .before .before .before .before .before .field .ensures) (c .before .before .before .before .before .before .before .before .before .before .before .field4 .ensures) (c .before .before .before .before .before .before .before .before .before .before .onward2 .ensures) (c .before .before .before .before .before .before .block2 .ensures .0), c .before .before .before .before .before .before .block2 .ensures .1)
 
 enter-returns : (t : ℕ) → enter-lts.Need-returns (enter-calls t) (enter-at t) enter.Post
-enter-returns t c = (L.enter-few _ _ _ _ _ _ _ _ _ (c .if1 .taken) (c .before .before .before .before .before .pre .1 .1), C.grows-same _ _)
+enter-returns t c = (L.enter-few _ _ _ _ _ _ _ _ _ (c .if1 .taken) (c .before .before .before .before .before .pre .1 .1), C.grows-same _ _ _)
 
 enter-sub-m : (t : ℕ) → enter-lts.Need-sub-m (enter-calls t) (enter-at t) enter.Post
 enter-sub-m t c = search needs
@@ -442,7 +442,7 @@ one-sub-t29 : (t : ℕ) → one-lts.Need-sub-t29 (one-calls t) (one-at t) one.Po
 one-sub-t29 t c = search needs
 
 one-returns : (t : ℕ) → one-lts.Need-returns (one-calls t) (one-at t) one.Post
-one-returns t c = (L.one-dry _ _ _ _ _ _ _ _ _ _ _ (c .before .before .before .before .before .before .before .before .before .pre .1 .1 .1) (c .before .before .before .before .field .ensures) (c .before .before .before .field2 .ensures) (c .before .before .field3 .ensures) (c .before .field4 .ensures) _ _ (c .if1 .taken) (omega (arith, c .before .before .before .before .before .before .before .before .before .pre .1 .1 .1)) (c .before .before .before .before .before .before .before .before .before .pre .1 .1 .0), C.grows-same _ _)
+one-returns t c = (L.one-dry _ _ _ _ _ _ _ _ _ _ _ (c .before .before .before .before .before .before .before .before .before .pre .1 .1 .1) (c .before .before .before .before .field .ensures) (c .before .before .before .field2 .ensures) (c .before .before .field3 .ensures) (c .before .field4 .ensures) _ _ (c .if1 .taken) (omega (arith, c .before .before .before .before .before .before .before .before .before .pre .1 .1 .1)) (c .before .before .before .before .before .before .before .before .before .pre .1 .1 .0), C.grows-same _ _ _)
 
 one-cast-fuel : (t : ℕ) → one-lts.Need-cast-fuel (one-calls t) (one-at t) one.Post
 one-cast-fuel t c = search needs
@@ -508,16 +508,16 @@ one-same-length-5 : (t : ℕ) → one-lts.Need-same-length-5 (one-calls t) (one-
 one-same-length-5 t c = search needs
 
 one-returns-3 : (t : ℕ) → one-lts.Need-returns-3 (one-calls t) (one-at t) one.Post
-one-returns-3 t c = (L.one-moves _ _ _ _ _ _ _ _ _ _ _ (c .before .before .before .before .before .before .before .before .before .before .before .before .before .before .before .before .before .before .before .pre .1 .1 .1) (c .before .before .before .before .before .before .before .before .before .before .before .before .before .before .field .ensures) (c .before .before .before .before .before .before .before .before .before .before .before .before .before .field2 .ensures) (c .before .before .before .before .before .before .before .before .before .before .before .before .field3 .ensures) (c .before .before .before .before .before .before .before .before .before .before .before .field4 .ensures) (c .before .before .before .before .before .before .before .before .before .before .if1 .left) (c .before .before .before .before .before .before .act .ensures) (c .before .before .below .ensures) (c .onward2 .ensures), C.grows-same _ _)
+one-returns-3 t c = (L.one-moves _ _ _ _ _ _ _ _ _ _ _ (c .before .before .before .before .before .before .before .before .before .before .before .before .before .before .before .before .before .before .before .pre .1 .1 .1) (c .before .before .before .before .before .before .before .before .before .before .before .before .before .before .field .ensures) (c .before .before .before .before .before .before .before .before .before .before .before .before .before .field2 .ensures) (c .before .before .before .before .before .before .before .before .before .before .before .before .field3 .ensures) (c .before .before .before .before .before .before .before .before .before .before .before .field4 .ensures) (c .before .before .before .before .before .before .before .before .before .before .if1 .left) (c .before .before .before .before .before .before .act .ensures) (c .before .before .below .ensures) (c .onward2 .ensures), C.grows-same _ _ _)
 
 abbrev scan-Inv-loop : scan-lts.InvT-loop
-scan-Inv-loop words left p n c work₀ arrays₀ log₀ room fuel logged q₀ m₀ h₀ f₀ l₀ work arrays log q m h f l = L.Scanning words room left n (drop p words) (take c work₀) (world fuel logged log₀ arrays₀) c m (drop q words) h work (world f l log arrays) × L.Lens work₀ work arrays₀ arrays log₀ log × Grows logged log₀ l log
+scan-Inv-loop words left p n c work₀ arrays₀ log₀ room fuel logged q₀ m₀ h₀ f₀ l₀ work arrays log q m h f l = L.Scanning words room left n (drop p words) (take c work₀) (world fuel logged log₀ arrays₀) c m (drop q words) h work (world f l log arrays) × L.Lens work₀ work arrays₀ arrays log₀ log × Grows room logged log₀ l log
 
 abbrev scan-μ-loop : scan-lts.MeasureT-loop
 scan-μ-loop words left p n c work₀ arrays₀ log₀ room fuel logged q₀ m₀ h₀ f₀ l₀ work arrays log q m h f l = m
 
 scan-loop-holds : (t : ℕ) → scan-lts.Need-loop-holds (scan-calls t) (scan-at t) scan.Post scan-Inv-loop scan-μ-loop
-scan-loop-holds t c = (L.scanning-start _ _ _ _ _ _ _ _, record { work-len = refl; arrays-len = refl; log-len = refl }, C.grows-same _ _)
+scan-loop-holds t c = (L.scanning-start _ _ _ _ _ _ _ _, record { work-len = refl; arrays-len = refl; log-len = refl }, C.grows-same _ _ _)
 
 scan-one-requires : (t : ℕ) → scan-lts.Need-one-requires (scan-calls t) (scan-at t) scan.Post scan-Inv-loop scan-μ-loop
 scan-one-requires t c κs = (omega (arith, c .before .before .before .before .before .before .before .before .before .pre), (record { locals = c .before .before .before .before .before .before .before .before .before .pre .1 .locals; frames = omega (arith, c .before .before .before .before .before .before .before .before .before .pre .1 .frames, c .before .before .before .before .loop .inv .1 .work-len); logs = omega (arith, c .before .before .before .before .before .before .before .before .before .pre .1 .logs, c .before .before .before .before .loop .inv .1 .log-len) }, (c .before .before .before .before .loop .inv .0 .fits, c .before .before .before .loop-test .taken)))
@@ -577,10 +577,10 @@ stmt-returns : (t : ℕ) → stmt-lts.Need-returns (stmt-calls t) (stmt-at t) st
 stmt-returns t c = (c .before .before .before .before .before .before .turns .ensures .0, c .before .before .before .before .before .before .turns .ensures .1)
 
 stmt-returns-2 : (t : ℕ) → stmt-lts.Need-returns-2 (stmt-calls t) (stmt-at t) stmt.Post
-stmt-returns-2 t c = (L.stmt-leave _ _ _ _ _ _ _ (c .before .before .field .ensures) (c .if2 .taken), C.grows-same _ _)
+stmt-returns-2 t c = (L.stmt-leave _ _ _ _ _ _ _ (c .before .before .field .ensures) (c .if2 .taken), C.grows-same _ _ _)
 
 stmt-returns-3 : (t : ℕ) → stmt-lts.Need-returns-3 (stmt-calls t) (stmt-at t) stmt.Post
-stmt-returns-3 t c = (L.stmt-unknown _ _ _ _ _ _ _ (c .before .before .before .field .ensures) (c .if3 .taken), C.grows-same _ _)
+stmt-returns-3 t c = (L.stmt-unknown _ _ _ _ _ _ _ (c .before .before .before .field .ensures) (c .if3 .taken), C.grows-same _ _ _)
 
 stmt-valued-requires : (t : ℕ) → stmt-lts.Need-valued-requires (stmt-calls t) (stmt-at t) stmt.Post
 stmt-valued-requires t c κs = (omega (arith, c .before .before .before .before .before .before .before .before .before .before .before .pre), (record { locals = c .before .before .before .before .before .before .before .before .before .before .before .pre .1 .locals; frames = c .before .before .before .before .before .before .before .before .before .before .before .pre .1 .frames; logs = c .before .before .before .before .before .before .before .before .before .before .before .pre .1 .logs }, (c .before .before .before .before .before .before .field .ensures, ((c .before .before .before .if3 .left, c .before .before .before .before .before .if1 .left), c .before .before .before .before .if2 .left))))
@@ -682,7 +682,7 @@ store-returns-3 : (t : ℕ) → store-lts.Need-returns-3 (store-calls t) (store-
 store-returns-3 t c = (L.store-outside _ _ _ 0 _ (c .before .before .before .before .before .before .before .before .before .before .before .before .before .before .before .before .before .before .field .ensures) (c .before .before .before .before .before .before .before .before .before .before .before .before .before .before .before .before .field2 .ensures) (c .before .before .before .before .before .before .before .before .before .before .before .before .before .before .before .before .before .onward .ensures) (c .before .before .before .before .before .before .before .before .before .before .before .before .scan .ensures .0) (c .before .before .before .before .out .given .1) (c .before .field4 .ensures) (c .if1 .left), c .before .before .before .before .before .before .before .before .before .before .before .before .scan .ensures .1)
 
 abbrev turns-Inv-loop : turns-lts.InvT-loop
-turns-Inv-loop words left depth p c work₀ arrays₀ log₀ room fuel logged n e s q g₀ f₀ l₀ work arrays log g f l = L.Rounding words room left depth n (drop e words) s (drop q words) (take c work₀) (world fuel logged log₀ arrays₀) g (take c work) (world f l log arrays) × L.Lens work₀ work arrays₀ arrays log₀ log × Grows logged log₀ l log
+turns-Inv-loop words left depth p c work₀ arrays₀ log₀ room fuel logged n e s q g₀ f₀ l₀ work arrays log g f l = L.Rounding words room left depth n (drop e words) s (drop q words) (take c work₀) (world fuel logged log₀ arrays₀) g (take c work) (world f l log arrays) × L.Lens work₀ work arrays₀ arrays log₀ log × Grows room logged log₀ l log
 
 abbrev turns-μ-loop : turns-lts.MeasureT-loop
 turns-μ-loop words left depth p c work₀ arrays₀ log₀ room fuel logged n e s q g₀ f₀ l₀ work arrays log g f l = g
@@ -718,7 +718,7 @@ turns-onward-requires-2 : (t : ℕ) → turns-lts.Need-onward-requires-2 (turns-
 turns-onward-requires-2 t c κs = search needs
 
 turns-loop-holds : (t : ℕ) → turns-lts.Need-loop-holds (turns-calls t) (turns-at t) turns.Post turns-Inv-loop turns-μ-loop
-turns-loop-holds t c = (L.rounding-start _ _ _ _ _ _ _ _ _ _, record { work-len = refl; arrays-len = refl; log-len = refl }, C.grows-same _ _)
+turns-loop-holds t c = (L.rounding-start _ _ _ _ _ _ _ _ _ _, record { work-len = refl; arrays-len = refl; log-len = refl }, C.grows-same _ _ _)
 
 turns-same-length : (t : ℕ) → turns-lts.Need-same-length (turns-calls t) (turns-at t) turns.Post turns-Inv-loop turns-μ-loop
 turns-same-length t c = search needs

@@ -73,7 +73,7 @@ pub fn call(
 ) -> Value
     requires { ⌜ Callable n left room (now work) (now log) ⌝ }
     ensures { λ r. ⌜ Calls (now (words .entry)) room left f (take n (now (work .entry))) (world fuel logged (now (log .entry)) (now (arrays .entry))) (r .out) (world (r .fuel) (r .logged) (now (log .exit)) (now (arrays .exit))) ⌝ }
-    ensures { λ r. ⌜ Grows logged (now (log .entry)) (r .logged) (now (log .exit)) ⌝ }
+    ensures { λ r. ⌜ Grows room logged (now (log .entry)) (r .logged) (now (log .exit)) ⌝ }
 {
     if left == 0 {
         let out = Out::Trapped(TOO_MANY_ACTIVATIONS);
@@ -112,7 +112,7 @@ pub fn call(
 }
 
 // An item that calls function f: its arguments are the n uppermost of h operands, where the callee's room begins.
-pub fn enter(
+fn enter(
     words: &[u32],
     left: u32,
     f: u32,
@@ -128,7 +128,7 @@ pub fn enter(
 ) -> Entered
     requires { ⌜ Roomy c left room (now work) (now log) × (h ≤ most-operands) ⌝ }
     ensures { λ r. ⌜ Enters (now (words .entry)) room left f n c h (now (work .entry)) (world fuel logged (now (log .entry)) (now (arrays .entry))) (r .out) (r .h) (now (work .exit)) (world (r .fuel) (r .logged) (now (log .exit)) (now (arrays .exit))) ⌝ }
-    ensures { λ r. ⌜ Grows logged (now (log .entry)) (r .logged) (now (log .exit)) ⌝ }
+    ensures { λ r. ⌜ Grows room logged (now (log .entry)) (r .logged) (now (log .exit)) ⌝ }
 {
     if h < n as usize {
         let out = Out::Trapped(program::MALFORMED);
@@ -175,7 +175,7 @@ pub fn enter(
 }
 
 // The first of n items from p on: its charge is paid, and then it is done.
-pub fn one(
+fn one(
     words: &[u32],
     left: u32,
     p: usize,
@@ -191,7 +191,7 @@ pub fn one(
 ) -> Step
     requires { ⌜ Roomy c left room (now work) (now log) × ((h ≤ most-operands) × (0 < n)) ⌝ }
     ensures { λ r. ⌜ Steps (now (words .entry)) room left n (drop p (now (words .entry))) c h (now (work .entry)) (world fuel logged (now (log .entry)) (now (arrays .entry))) (r .out) (r .n) (drop (r .p) (now (words .entry))) (r .h) (now (work .exit)) (world (r .fuel) (r .logged) (now (log .exit)) (now (arrays .exit))) ⌝ }
-    ensures { λ r. ⌜ Grows logged (now (log .entry)) (r .logged) (now (log .exit)) ⌝ }
+    ensures { λ r. ⌜ Grows room logged (now (log .entry)) (r .logged) (now (log .exit)) ⌝ }
 {
     let k = field(words, p, item::KIND);
     let charge = field(words, p, item::CHARGE);
@@ -250,7 +250,7 @@ pub fn one(
 }
 
 // The value of n items from p on.
-pub fn scan(
+fn scan(
     words: &[u32],
     left: u32,
     p: usize,
@@ -265,7 +265,7 @@ pub fn scan(
 ) -> Value
     requires { ⌜ Roomy c left room (now work) (now log) ⌝ }
     ensures { λ r. ⌜ Scans (now (words .entry)) room left n (drop p (now (words .entry))) (take c (now (work .entry))) (world fuel logged (now (log .entry)) (now (arrays .entry))) (r .out) (take c (now (work .exit))) (world (r .fuel) (r .logged) (now (log .exit)) (now (arrays .exit))) ⌝ }
-    ensures { λ r. ⌜ Grows logged (now (log .entry)) (r .logged) (now (log .exit)) ⌝ }
+    ensures { λ r. ⌜ Grows room logged (now (log .entry)) (r .logged) (now (log .exit)) ⌝ }
 {
     let mut q = p;
     let mut m = n;
@@ -297,7 +297,7 @@ pub fn scan(
 }
 
 // n statements from p on, each charged when it begins.
-pub fn block(
+fn block(
     words: &[u32],
     left: u32,
     depth: u32,
@@ -313,7 +313,7 @@ pub fn block(
 ) -> Done
     requires { ⌜ Roomy c left room (now work) (now log) ⌝ }
     ensures { λ r. ⌜ Blocks (now (words .entry)) room left depth n (drop p (now (words .entry))) (take c (now (work .entry))) (world fuel logged (now (log .entry)) (now (arrays .entry))) (r .flow) (take c (now (work .exit))) (world (r .fuel) (r .logged) (now (log .exit)) (now (arrays .exit))) ⌝ }
-    ensures { λ r. ⌜ Grows logged (now (log .entry)) (r .logged) (now (log .exit)) ⌝ }
+    ensures { λ r. ⌜ Grows room logged (now (log .entry)) (r .logged) (now (log .exit)) ⌝ }
 {
     let flow = Flow::Next;
     if depth == 0 {
@@ -362,7 +362,7 @@ pub fn block(
 }
 
 // The rounds of `while`, which cost their conditions and blocks.
-pub fn turns(
+fn turns(
     words: &[u32],
     left: u32,
     depth: u32,
@@ -377,7 +377,7 @@ pub fn turns(
 ) -> Done
     requires { ⌜ Roomy c left room (now work) (now log) × (getD (drop p (now words)) 0 0 ≡ 3) ⌝ }
     ensures { λ r. ⌜ Execs (now (words .entry)) room left depth (drop p (now (words .entry))) (take c (now (work .entry))) (world fuel logged (now (log .entry)) (now (arrays .entry))) (r .flow) (take c (now (work .exit))) (world (r .fuel) (r .logged) (now (log .exit)) (now (arrays .exit))) ⌝ }
-    ensures { λ r. ⌜ Grows logged (now (log .entry)) (r .logged) (now (log .exit)) ⌝ }
+    ensures { λ r. ⌜ Grows room logged (now (log .entry)) (r .logged) (now (log .exit)) ⌝ }
 {
     let n = field(words, p, statement::FIRST_ITEMS);
     let e = onward(words, p, statement::WORDS as usize);
@@ -428,7 +428,7 @@ pub fn turns(
 }
 
 // The block that `if` comes to by its condition's value.
-pub fn choose(
+fn choose(
     words: &[u32],
     left: u32,
     depth: u32,
@@ -444,7 +444,7 @@ pub fn choose(
 ) -> Done
     requires { ⌜ Roomy c left room (now work) (now log) ⌝ }
     ensures { λ r. ⌜ Chooses (now (words .entry)) room left depth (drop p (now (words .entry))) v (take c (now (work .entry))) (world fuel logged (now (log .entry)) (now (arrays .entry))) (r .flow) (take c (now (work .exit))) (world (r .fuel) (r .logged) (now (log .exit)) (now (arrays .exit))) ⌝ }
-    ensures { λ r. ⌜ Grows logged (now (log .entry)) (r .logged) (now (log .exit)) ⌝ }
+    ensures { λ r. ⌜ Grows room logged (now (log .entry)) (r .logged) (now (log .exit)) ⌝ }
 {
     let n = field(words, p, statement::FIRST_ITEMS);
     let e = statement::WORDS as usize + item::WORDS as usize * n as usize;
@@ -486,7 +486,7 @@ pub fn choose(
 }
 
 // The value that is stored at index i, and then the index's test.
-pub fn store(
+fn store(
     words: &[u32],
     left: u32,
     p: usize,
@@ -501,7 +501,7 @@ pub fn store(
 ) -> Done
     requires { ⌜ Roomy c left room (now work) (now log) ⌝ }
     ensures { λ r. ⌜ Stores (now (words .entry)) room left (drop p (now (words .entry))) i (take c (now (work .entry))) (world fuel logged (now (log .entry)) (now (arrays .entry))) (r .flow) (take c (now (work .exit))) (world (r .fuel) (r .logged) (now (log .exit)) (now (arrays .exit))) ⌝ }
-    ensures { λ r. ⌜ Grows logged (now (log .entry)) (r .logged) (now (log .exit)) ⌝ }
+    ensures { λ r. ⌜ Grows room logged (now (log .entry)) (r .logged) (now (log .exit)) ⌝ }
 {
     let n = field(words, p, statement::FIRST_ITEMS);
     let e = onward(
@@ -539,7 +539,7 @@ pub fn store(
 }
 
 // A statement of kind k that begins with an expression's value.
-pub fn valued(
+fn valued(
     words: &[u32],
     left: u32,
     depth: u32,
@@ -555,7 +555,7 @@ pub fn valued(
 ) -> Done
     requires { ⌜ Roomy c left room (now work) (now log) × ((k ≡ getD (drop p (now words)) 0 0) × (((k ≤ 7) × (k ≡ 3 → ⊥)) × (k ≡ 4 → ⊥))) ⌝ }
     ensures { λ r. ⌜ Execs (now (words .entry)) room left depth (drop p (now (words .entry))) (take c (now (work .entry))) (world fuel logged (now (log .entry)) (now (arrays .entry))) (r .flow) (take c (now (work .exit))) (world (r .fuel) (r .logged) (now (log .exit)) (now (arrays .exit))) ⌝ }
-    ensures { λ r. ⌜ Grows logged (now (log .entry)) (r .logged) (now (log .exit)) ⌝ }
+    ensures { λ r. ⌜ Grows room logged (now (log .entry)) (r .logged) (now (log .exit)) ⌝ }
 {
     let n = field(words, p, statement::FIRST_ITEMS);
     let e = onward(words, p, statement::WORDS as usize);
@@ -599,7 +599,7 @@ pub fn valued(
 }
 
 // The statement at p, which is paid for already.
-pub fn stmt(
+fn stmt(
     words: &[u32],
     left: u32,
     depth: u32,
@@ -614,7 +614,7 @@ pub fn stmt(
 ) -> Done
     requires { ⌜ Roomy c left room (now work) (now log) ⌝ }
     ensures { λ r. ⌜ Execs (now (words .entry)) room left depth (drop p (now (words .entry))) (take c (now (work .entry))) (world fuel logged (now (log .entry)) (now (arrays .entry))) (r .flow) (take c (now (work .exit))) (world (r .fuel) (r .logged) (now (log .exit)) (now (arrays .exit))) ⌝ }
-    ensures { λ r. ⌜ Grows logged (now (log .entry)) (r .logged) (now (log .exit)) ⌝ }
+    ensures { λ r. ⌜ Grows room logged (now (log .entry)) (r .logged) (now (log .exit)) ⌝ }
 {
     let k = field(words, p, statement::KIND);
     if k == statement::WHILE {
