@@ -66,31 +66,52 @@ unfoldable pub itemsOf : ℕ → List ℕ → List Item
 itemsOf zero ws = []
 itemsOf (suc n) ws = itemOf ws ∷ itemsOf n (drop item-words ws)
 
--- Statements. A statement is a header of eight words, and then its expressions and its blocks, one after the other. The header's words:
--- 0 its kind's number, 1 and 2 two that the kind has a use for, 3 and 4 how many items the first and the second expression have, 5 and 6 how many
--- statements the first and the second block have, 7 how many words follow the header.
+-- Statements. A statement is a header of eight words, and then its expressions and its blocks, one after the other. The header's first word is
+-- its kind's number. Then come two that the kind has a use for, how many items the first and the second expression have, how many statements the
+-- first and the second block have, and how many words follow the header.
 
 abbrev pub header-words : ℕ
 header-words = 8
 
+abbrev pub a : List ℕ → ℕ
+a ws = word ws 1
+
+abbrev pub b : List ℕ → ℕ
+b ws = word ws 2
+
+abbrev pub first-items : List ℕ → ℕ
+first-items ws = word ws 3
+
+abbrev pub second-items : List ℕ → ℕ
+second-items ws = word ws 4
+
+abbrev pub first-count : List ℕ → ℕ
+first-count ws = word ws 5
+
+abbrev pub second-count : List ℕ → ℕ
+second-count ws = word ws 6
+
+abbrev pub rest-words : List ℕ → ℕ
+rest-words ws = word ws 7
+
 -- how many words are before the end of the first expression
 abbrev pub first-end : List ℕ → ℕ
-first-end ws = header-words + item-words * word ws 3
+first-end ws = header-words + item-words * first-items ws
 
 abbrev pub first : List ℕ → List Item
-first ws = itemsOf (word ws 3) (drop header-words ws)
+first ws = itemsOf (first-items ws) (drop header-words ws)
 
 abbrev pub second : List ℕ → List Item
-second ws = itemsOf (word ws 4) (drop (first-end ws) ws)
+second ws = itemsOf (second-items ws) (drop (first-end ws) ws)
 
 module _ (block : ℕ → List ℕ → Block) where
-  -- of `choose`, word 1 is how many words the first block has
+  -- of `choose`, a is how many words the first block has
   abbrev pub statements : List ℕ → List Stmt
   statements ws =
-      put (word ws 1) (first ws) ∷
-      store (record { offset = word ws 1; size = word ws 2 }) (first ws) (second ws) ∷
-      choose (first ws) (block (word ws 5) (drop (first-end ws) ws)) (block (word ws 6) (drop (first-end ws + word ws 1) ws)) ∷
-      while (first ws) (block (word ws 5) (drop (first-end ws) ws)) ∷
+      put (a ws) (first ws) ∷
+      store (record { offset = a ws; size = b ws }) (first ws) (second ws) ∷
+      choose (first ws) (block (first-count ws) (drop (first-end ws) ws)) (block (second-count ws) (drop (first-end ws + a ws) ws)) ∷
+      while (first ws) (block (first-count ws) (drop (first-end ws) ws)) ∷
       leave ∷
       give (first ws) ∷
       emit (first ws) ∷
@@ -103,7 +124,7 @@ module _ (block : ℕ → List ℕ → Block) where
 -- n statements, one after the other
 unfoldable pub sequenceOf : (List ℕ → Stmt) → ℕ → List ℕ → Block
 sequenceOf stmt zero ws = end
-sequenceOf stmt (suc n) ws = then (stmt ws) (sequenceOf stmt n (drop (header-words + word ws 7) ws))
+sequenceOf stmt (suc n) ws = then (stmt ws) (sequenceOf stmt n (drop (header-words + rest-words ws) ws))
 
 -- "At most 32 of these may be open at any point: blocks, .."
 abbrev pub most-nesting : ℕ

@@ -1,2 +1,6 @@
 pub mod Lists
 pub mod Operate
+pub mod Moving
+pub mod Changing
+pub mod Running
+pub mod Whole

@@ -1,10 +1,96 @@
-// The interpreter.
-pub mod operators;
-pub mod words;
+// Document 01 §5, run: the flat core program that `flat` describes, over the caller's buffers. What `run` ensures is the meaning of the words, and with
+// the laws of `flat` that of the program they are the words of (proofs/Whole.antt).
+ghost use mathlib.Core.Path.{_≡_};
+ghost use Prim.Native.Nat.{_≤_};
+ghost use lib.ListN.{length};
+ghost use Rattle.interpreter.specs.Post.{working-room, endedOf, Runs};
+use crate::walk::call;
+use crate::words::field;
+use flat::program;
 
-// How far something came: it goes on with a value, or it has stopped.
+pub mod words; // words in slices
+pub mod operators; // operators by their numbers
+pub mod operands; // an activation's locals and operands
+pub mod items; // items that call nothing
+pub mod state; // what statements and calls change
+pub mod walk; // expressions, statements, blocks and calls
+
+// "more than 64 activations at once, main included" is trap 3.
+pub const MOST_ACTIVATIONS: u32 = 64;
+
+// The words of working room that so many activations take: 64 locals and 324 operands each.
+pub const WORKING_ROOM: usize = 24832;
+
+// How far an expression or a call came: it goes on with a value, or it has stopped.
 pub enum Out {
     Goes(u32),
     Trapped(u32),
     OutOfFuel,
+}
+
+// Where a statement leads: on to the next one, out of the function, or nowhere.
+pub enum Flow {
+    Next,
+    Returned(u32),
+    Trapped(u32),
+    OutOfFuel,
+}
+
+// "Outcomes: finished, trapped with a number, out of fuel".
+pub enum Outcome {
+    Finished,
+    Trapped(u32),
+    OutOfFuel,
+}
+
+// A run's outcome, the fuel that is left and how many words are logged.
+pub struct Ran {
+    pub outcome: Outcome,
+    pub fuel: u64,
+    pub logged: usize,
+}
+
+// The outcome of a run, by how far the call of main came.
+pub fn ended(out: Out) -> Outcome
+    ensures { λ r. ⌜ r ≡ endedOf out ⌝ }
+{
+    match out {
+        Out::Goes(_) => Outcome::Finished,
+        Out::Trapped(n) => Outcome::Trapped(n),
+        Out::OutOfFuel => Outcome::OutOfFuel,
+    }
+}
+
+// "A run takes the initial contents of all arrays, in order of declaration, and a fuel figure; it calls main."
+pub fn run(
+    words: &[u32],
+    arrays: &mut [u32],
+    log: &mut [u32],
+    room: usize,
+    fuel: u64,
+    work: &mut [u32],
+) -> Ran
+    requires { ⌜ (room ≤ length (now log)) × (working-room ≤ length (now work)) ⌝ }
+    ensures { λ r. ⌜ Runs (now (words .entry)) room fuel (now (arrays .entry)) (now (log .entry)) (r .outcome) (r .fuel) (r .logged) (now (arrays .exit)) (now (log .exit)) ⌝ }
+{
+    let main = field(words, 0, program::MAIN);
+    let r = call(
+        words,
+        MOST_ACTIVATIONS,
+        main,
+        0,
+        work,
+        arrays,
+        log,
+        room,
+        fuel,
+        0,
+    );
+    let out = r.out;
+    let outcome = ended(out);
+    Ran {
+        outcome,
+        fuel: r.fuel,
+        logged: r.logged,
+    }
 }

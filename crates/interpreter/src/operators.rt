@@ -2,20 +2,8 @@
 ghost use mathlib.Core.Path.{_≡_};
 ghost use Rattle.interpreter.specs.Post.{Strictly, Unarily};
 use crate::Out;
-use flat::operator::ADD;
-use flat::operator::DIV;
-use flat::operator::EQ;
-use flat::operator::GE;
-use flat::operator::GT;
-use flat::operator::LE;
-use flat::operator::LT;
-use flat::operator::MUL;
-use flat::operator::NE;
-use flat::operator::NEGATE;
-use flat::operator::NOT;
-use flat::operator::REM;
-use flat::operator::SUB;
-use flat::program::MALFORMED;
+use flat::operator;
+use flat::program;
 use word::arithmetic::add;
 use word::arithmetic::mul;
 use word::arithmetic::neg;
@@ -32,26 +20,26 @@ pub fn strict(op: u32, a: u32, b: u32) -> Out
     ensures { λ r. ⌜ Strictly op a b r ⌝ }
 {
     match op {
-        EQ => Out::Goes(bit_of(a == b)),
-        NE => Out::Goes(bit_of(a != b)),
-        LT => Out::Goes(bit_of(less_signed(a, b))),
-        LE => Out::Goes(bit_of(!less_signed(b, a))),
-        GT => Out::Goes(bit_of(less_signed(b, a))),
-        GE => Out::Goes(bit_of(!less_signed(a, b))),
-        ADD => Out::Goes(add(a, b)),
-        SUB => Out::Goes(sub(a, b)),
-        MUL => Out::Goes(mul(a, b)),
-        DIV => if b == 0 {
+        operator::EQ => Out::Goes(bit_of(a == b)),
+        operator::NE => Out::Goes(bit_of(a != b)),
+        operator::LT => Out::Goes(bit_of(less_signed(a, b))),
+        operator::LE => Out::Goes(bit_of(!less_signed(b, a))),
+        operator::GT => Out::Goes(bit_of(less_signed(b, a))),
+        operator::GE => Out::Goes(bit_of(!less_signed(a, b))),
+        operator::ADD => Out::Goes(add(a, b)),
+        operator::SUB => Out::Goes(sub(a, b)),
+        operator::MUL => Out::Goes(mul(a, b)),
+        operator::DIV => if b == 0 {
             Out::Trapped(DIVISION_BY_ZERO)
         } else {
             Out::Goes(quotient_signed(a, b))
         },
-        REM => if b == 0 {
+        operator::REM => if b == 0 {
             Out::Trapped(DIVISION_BY_ZERO)
         } else {
             Out::Goes(remainder_signed(a, b))
         },
-        _ => Out::Trapped(MALFORMED),
+        _ => Out::Trapped(program::MALFORMED),
     }
 }
 
@@ -60,8 +48,8 @@ pub fn unary(op: u32, a: u32) -> Out
     ensures { λ r. ⌜ Unarily op a r ⌝ }
 {
     match op {
-        NEGATE => Out::Goes(neg(a)),
-        NOT => Out::Goes(bit_of(a == 0)),
-        _ => Out::Trapped(MALFORMED),
+        operator::NEGATE => Out::Goes(neg(a)),
+        operator::NOT => Out::Goes(bit_of(a == 0)),
+        _ => Out::Trapped(program::MALFORMED),
     }
 }
