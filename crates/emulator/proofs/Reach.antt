@@ -4,7 +4,7 @@ use mathlib.Core.Path.{_≡_, refl, sym, _∙_, ap, subst}
 use mathlib.Core.Bool.{Bool, true, false}
 use native.Mathlib.Omega.{arith}
 use lib.Dec.{leb, eqb, T}
-use borrow.Author.Tests.{le-leb, lt-leb, leb-true, eqb-true}
+use borrow.Author.Tests.{le-leb, lt-leb, eqb-true}
 use Rattle.word.specs.Choice.{both}
 use Rattle.processor.specs.declared.Width.{Width}
 use Rattle.processor.specs.declared.Width.the-variants.{Byte, Half, Word, ByteU, HalfU}
@@ -56,16 +56,3 @@ within s at h g =
     ends Word at g e = omega arith
     ends ByteU at g e = omega arith
     ends HalfU at g e = omega arith
-
--- where a load or a store does not fault, it stays in memory
-pub inside : (s : Width) (at : ℕ) → reaches s at ≡ true → at + sizeOf s ≤ memory-bytes
-unfolding reaches
-inside s at e = leb-true _ _ (first-of (leb (at + sizeOf s) memory-bytes) _ (second-of (eqb (at % sizeOf s) 0) _ e))
-  where
-    first-of : (a b : Bool) → both a b ≡ true → a ≡ true
-    first-of true b e = refl
-    first-of false b e = absurd (subst T (sym e) tt)
-
-    second-of : (a b : Bool) → both a b ≡ true → b ≡ true
-    second-of true b e = e
-    second-of false b e = absurd (subst T (sym e) tt)

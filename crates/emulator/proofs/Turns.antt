@@ -9,11 +9,12 @@ use lib.Dec.{T, leb, ltb, eqb}
 use borrow.Author.Tests.{ltb-true}
 use Rattle.word.specs.Choice.{both}
 use Rattle.processor.specs.declared.Status.{Status}
-use Rattle.processor.specs.declared.Status.the-variants.{Going, Exit, Trap, Fault, Limit}
+use Rattle.processor.specs.declared.Status.the-variants.{Going, Limit}
 use Rattle.processor.specs.Machine.{Machine, state, code-start, memory-bytes}
 use Rattle.processor.specs.Execute.{halt}
 use Rattle.processor.specs.Run.{inCode, stepOf, isGoing, counted, runOf, Run}
 use Rattle.processor.specs.Image.{longest-code}
+use Rattle.processor.proofs.Onward.{going-is}
 
 -- where an instruction may start, its word lies in memory
 pub fetched : (size pc : ℕ) → size ≤ longest-code → inCode size pc ≡ true → pc + 4 ≤ memory-bytes
@@ -25,13 +26,6 @@ fetched size pc h e =
     second : (a b : Bool) → both a b ≡ true → b ≡ true
     second true b e = e
     second false b e = absurd (subst T (sym e) tt)
-
-going-is : (s : Status) → isGoing s ≡ true → s ≡ Going
-going-is Going e = refl
-going-is Exit e = absurd (subst T (sym e) tt)
-going-is (Trap t) e = absurd (subst T (sym e) tt)
-going-is (Fault n) e = absurd (subst T (sym e) tt)
-going-is Limit e = absurd (subst T (sym e) tt)
 
 -- After n of the limit's steps, and those before the run, the rest of the run is the whole.
 module _ (size room limit before n : ℕ) (m : Machine) (r : List ℕ) (p : ℕ) (mm l : List ℕ) (st : Status) (all : Run) (h : n < limit)

@@ -91,7 +91,8 @@ pub fn branch(w: u32, registers: &[u32], logged: usize, pc: u32) -> After
 {
     let a = first(registers, w);
     let b = second(registers, w);
-    let to = branch_to(w / 4096 % 8, a, b, add(pc, imm_b(w)), add(pc, 4));
+    let next = add(pc, 4);
+    let to = branch_to(w / 4096 % 8, a, b, add(pc, imm_b(w)), next);
     match to {
         Value::Is(p) => After {
             pc: p,
@@ -254,8 +255,9 @@ pub fn jalr(w: u32, registers: &mut [u32], logged: usize, pc: u32) -> After
             status: Status::Fault(2),
         };
     }
+    let next = add(pc, 4);
     let to = add(first(registers, w), imm_i(w)) / 2 * 2;
-    put(registers, w, add(pc, 4));
+    put(registers, w, next);
     After {
         pc: to,
         logged,

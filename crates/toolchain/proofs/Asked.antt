@@ -1,12 +1,13 @@
 -- What an accepted call was lent.
-use Prim.Native.Nat.{ℕ, _≤_, _%_}
+use Prim.Native.Nat.{ℕ, _≤_, _<_, _%_}
 use mathlib.Core.Path.{_≡_, refl, sym, subst}
 use mathlib.Core.Bool.{Bool, true, false}
 use native.Mathlib.Omega.{arith}
 use lib.Dec.{T, leb, eqb}
-use borrow.Author.Tests.{leb-true}
+use borrow.Author.Tests.{leb-true, le-leb, lt-leb, ne-eqb}
 use Rattle.word.specs.Choice.{pick, both}
 use Rattle.processor.specs.Machine.{memory-bytes, register-count}
+use Rattle.toolchain.specs.Emulation.{resumeAnswer}
 use Rattle.processor.specs.Image.{Lent, longest-code, longest-input, fits, accepted, answerOf}
 
 pub record Enough (l : Lent) : Type 0 where
@@ -43,3 +44,17 @@ enough l e =
       registers = leb-true _ _ (rest .0);
       log = leb-true _ _ (rest .1);
     }
+
+-- What a call to go on is answered: refused as from the start, refused for its log, or accepted.
+
+pub resume-refused : (l : Lent) (logged n : ℕ) → n ≡ answerOf l → (n ≡ accepted → ⊥) → resumeAnswer l logged ≡ n
+unfolding resumeAnswer
+resume-refused l logged n e other = rw (← e, ne-eqb _ _ other)
+
+pub resume-full : (l : Lent) (logged : ℕ) → answerOf l ≡ accepted → l .room < logged → resumeAnswer l logged ≡ 6
+unfolding resumeAnswer
+resume-full l logged e h = rw (e, lt-leb _ _ h)
+
+pub resume-accepted : (l : Lent) (logged : ℕ) → answerOf l ≡ accepted → logged ≤ l .room → resumeAnswer l logged ≡ accepted
+unfolding resumeAnswer
+resume-accepted l logged e h = rw (e, le-leb _ _ h)

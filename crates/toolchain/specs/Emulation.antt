@@ -51,3 +51,26 @@ Answers answer run before after (Ran e) = (answer ≡ accepted) × Holds run bef
 unfoldable pub Emulates : List ℕ → List ℕ → ℕ → ℕ → Buffers → Buffers → Outcome → Type 0
 Emulates code input room limit before after o =
     Answers (answerOf (sizes (length code) (length input) before room)) (runImage code input room limit) before after o
+
+-- `resume`: a run gone on with. It is where it ended, with its machine in the buffers.
+abbrev pub stood : Ended → Buffers → Run
+stood e b = record {
+  machine = state (take register-count (b .registers)) (e .pc) (take memory-bytes (b .memory)) (take (e .logged) (b .log)) (e .status);
+  steps = e .steps;
+}
+
+-- The answer is that of `emulate`, with no input block, and 6 too where the room stated is less than what was logged.
+unfoldable pub resumeAnswer : Lent → ℕ → ℕ
+resumeAnswer l logged = pick (eqb (answerOf l) accepted) (pick (leb logged (l .room)) accepted 6) (answerOf l)
+
+-- Steps are counted in 64 bits: a run is gone on with for so many steps more, or up to the last that can be counted.
+abbrev pub most-steps : ℕ
+most-steps = 2 ^ 64 - 1
+
+unfoldable pub stepsMore : ℕ → ℕ → ℕ
+stepsMore limit steps = pick (leb limit (most-steps - steps)) limit (most-steps - steps)
+
+-- "A run with limit a, gone on with for b more, is the run with limit a + b" (§4): `onward` goes on where the limit stopped it, and only there.
+unfoldable pub Resumes : ℕ → Ended → ℕ → ℕ → Buffers → Buffers → Outcome → Type 0
+Resumes size e room limit before after o =
+    Answers (resumeAnswer (sizes size 0 before room) (e .logged)) (onward size room (stepsMore limit (e .steps)) (stood e before)) before after o

@@ -1,6 +1,6 @@
 -- `load_as` meets its contract: what it reaches is read, else nothing changes.
 use Rattle.processor.specs.Execute.{loadOf}
-use Rattle.emulator.proofs.Reach.{inside}
+use Rattle.processor.proofs.Kept.{reached}
 use mathlib.Core.Path.{_≡_, refl, sym, _∙_, ap}
 use Rattle.emulator.proofs.rows.load_as.Statement.{statement}
 use Rattle.emulator.proofs.rows.load_as.Tie as tie
@@ -11,7 +11,7 @@ reaches-requires : tie.Need-reaches-requires
 reaches-requires c κs = search needs
 
 read-at-requires : tie.Need-read-at-requires
-read-at-requires c κs = omega (arith, inside (c .before .before .before .before .before .args .s) (c .before .before .before .before .before .args .at) (sym (c .before .before .reaches .ensures) ∙ c .before .if1 .taken))
+read-at-requires c κs = omega (arith, reached (c .before .before .before .before .before .args .s) (c .before .before .before .before .before .args .at) (sym (c .before .before .reaches .ensures) ∙ c .before .if1 .taken) .within)
 
 put-requires : tie.Need-put-requires
 put-requires c κs = search needs

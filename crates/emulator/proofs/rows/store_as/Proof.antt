@@ -1,6 +1,6 @@
 -- `store_as` meets its contract: what it reaches is written, else nothing changes.
 use Rattle.processor.specs.Execute.{storeOf}
-use Rattle.emulator.proofs.Reach.{inside}
+use Rattle.processor.proofs.Kept.{reached}
 use mathlib.Core.Path.{_≡_, refl, sym, _∙_, ap}
 use Rattle.emulator.proofs.rows.store_as.Statement.{statement}
 use Rattle.emulator.proofs.rows.store_as.Tie as tie
@@ -11,7 +11,7 @@ reaches-requires : tie.Need-reaches-requires
 reaches-requires c κs = search needs
 
 write-at-requires : tie.Need-write-at-requires
-write-at-requires c κs = omega (arith, inside (c .before .before .before .before .args .s) (c .before .before .before .before .args .at) (sym (c .before .before .reaches .ensures) ∙ c .before .if1 .taken))
+write-at-requires c κs = omega (arith, reached (c .before .before .before .before .args .s) (c .before .before .before .before .args .at) (sym (c .before .before .reaches .ensures) ∙ c .before .if1 .taken) .within)
 
 add-requires : tie.Need-add-requires
 add-requires c κs = search needs
