@@ -71,7 +71,7 @@ pub record Entered (L : Linked) (left f : ℕ) (vs : List ℕ) (w : World) (R : 
 pub record CallIn (L : Linked) (left : ℕ) : Type 0 where
   pub run : (f : ℕ) (vs ls : List ℕ) (w : World) (R : ℕ) (σ : State) → Entered L left f vs w R σ
       → Sound (L .setting) (callAt (L .setting .room) (L .functions) left f vs ls w) (K * w .fuel + 80) (w .fuel) C
-        (λ v ls′ w′ τ. Back (L .setting .elements) (σ .registers Fixed 1) R (σ .memory) (w .fuel) v w′ τ × (ls′ ≡ ls)) σ
+      (λ v ls′ w′ τ. Back (L .setting .elements) (σ .registers Fixed 1) R (σ .memory) (w .fuel) v w′ τ × (ls′ ≡ ls)) σ
 
 -- One activation: of a function with N locals, at B, from where so many more may begin.
 pub record Activation (L : Linked) : Type 0 where
@@ -105,18 +105,32 @@ module _ (L : Linked) (A : Activation L) where
   pub core-spent : {ls : List ℕ} {w : World} {fixed arguments memory : ℕ → ℕ} {log : List ℕ} (f : ℕ)
       → Core (S .elements) B (A .R) (A .N) (A .m₀) ls w fixed arguments memory log → Core (S .elements) B (A .R) (A .N) (A .m₀) ls (spent f w) fixed arguments memory log
   core-spent f c = record {
-    sp-is = c .sp-is; limit-is = c .limit-is; request-is = c .request-is; log-is = c .log-is; arrays = c .arrays; many = c .many; locals = c .locals;
-    ra-is = c .ra-is; below = c .below }
+    sp-is = c .sp-is;
+    limit-is = c .limit-is;
+    request-is = c .request-is;
+    log-is = c .log-is;
+    arrays = c .arrays;
+    many = c .many;
+    locals = c .locals;
+    ra-is = c .ra-is;
+    below = c .below;
+  }
 
   pub arrays-same : {xs : List ℕ} {m m′ : ℕ → ℕ} → ((a : ℕ) → a < stack-start → m′ a ≡ m a) → Arrays (S .elements) xs m → Arrays (S .elements) xs m′
   arrays-same h c = record { all = c .all; cell = λ i k. h (data-start + 4 * i) (omega (arith, L .few)) ∙ c .cell i k }
 
   pub core-same : {d q : ℕ} {ls : List ℕ} {w : World} {σ τ : State} → Cor ls w σ → Same B d q σ τ → Cor ls w τ
   core-same c G = record {
-    sp-is = G .fixed 1 ∙ c .sp-is; limit-is = G .fixed 2 ∙ c .limit-is; request-is = G .arguments 7 ∙ c .request-is; log-is = G .log ∙ c .log-is;
-    arrays = arrays-same (λ a h. G .memory a (omega (arith, high))) (c .arrays); many = c .many;
-    locals = λ y h. G .memory _ (omega (arith, A .few)) ∙ c .locals y h; ra-is = G .memory _ (omega arith) ∙ c .ra-is;
-    below = λ a h k. G .memory a (omega arith) ∙ c .below a h k }
+    sp-is = G .fixed 1 ∙ c .sp-is;
+    limit-is = G .fixed 2 ∙ c .limit-is;
+    request-is = G .arguments 7 ∙ c .request-is;
+    log-is = G .log ∙ c .log-is;
+    arrays = arrays-same (λ a h. G .memory a (omega (arith, high))) (c .arrays);
+    many = c .many;
+    locals = λ y h. G .memory _ (omega (arith, A .few)) ∙ c .locals y h;
+    ra-is = G .memory _ (omega arith) ∙ c .ra-is;
+    below = λ a h k. G .memory a (omega arith) ∙ c .below a h k;
+  }
 
   -- an expression's value is at its place
   pub record ExprPost (σ : State) (d q : ℕ) (pl : Place) (ls₀ : List ℕ) (f v : ℕ) (ls : List ℕ) (w : World) (τ : State) : Type 0 where
@@ -165,7 +179,14 @@ module _ (L : Linked) (A : Activation L) where
   pub finish : {d q v f : ℕ} {ls₀ ls : List ℕ} {w : World} {σ ρ τ : State} → Cor ls w ρ → Same B d q ρ τ → valueAt (temporary d) B τ ≡ v
       → ((j : ℕ) → j < d → valueAt (temporary j) B ρ ≡ valueAt (temporary j) B σ) → ls ≡ ls₀ → w .fuel < f → ExprPost σ d q (temporary d) ls₀ f v ls w τ
   finish c G hv hk he hl = record {
-    on = G .on; here = G .here; cor = core-same c G; is = hv; keep = λ j h. value-same (temporary j) h G ∙ hk j h; locals = he; less = hl }
+    on = G .on;
+    here = G .here;
+    cor = core-same c G;
+    is = hv;
+    keep = λ j h. value-same (temporary j) h G ∙ hk j h;
+    locals = he;
+    less = hl;
+  }
 
   -- a condition has jumped, or not
   abbrev pub aim : Bool → ℕ → ℕ → ℕ → ℕ

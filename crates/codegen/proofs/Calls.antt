@@ -80,9 +80,21 @@ module _ (L : Linked) (A : Activation L) where
   passed : (ps : List Place) (vs : List ℕ) (i p q : ℕ) (σ : State) → i + length ps ≤ 8 → Held ps vs σ → σ .registers Fixed 1 ≡ B → At (S .code) p (passes ps i) q
       → σ .status ≡ Going → σ .pc ≡ p → (τ : State) × Ran S (3 * length ps) σ τ × Passed i ps vs q σ τ
   unfolding passes
-  passed [] [] i p q σ hi h hs c on hp =
-      (σ, ran-none S, record {
-        on = on; here = hp ∙ c; fixed = λ j. refl; arguments = λ j. refl; temporaries = λ j. refl; log = refl; len = refl; values = λ j k. absurd (omega arith); other = λ a k. refl })
+  passed [] [] i p q σ hi h hs c on hp = (
+    σ,
+    ran-none S,
+    record {
+      on = on;
+      here = hp ∙ c;
+      fixed = λ j. refl;
+      arguments = λ j. refl;
+      temporaries = λ j. refl;
+      log = refl;
+      len = refl;
+      values = λ j k. absurd (omega arith);
+      other = λ a k. refl;
+    },
+  )
   passed [] (v ∷ vs) i p q σ hi h hs c on hp = absurd h
   passed (pl ∷ ps) [] i p q σ hi h hs c on hp = absurd h
   passed (pl ∷ ps) (v ∷ vs) i p q σ hi h hs c on hp =
@@ -91,19 +103,27 @@ module _ (L : Linked) (A : Activation L) where
       let n : ℕ = frame-bytes + 4 * localWord i in
       let τ1 : State = stores (B + n) (value (g .0) (source pl 0)) (g .0) in
       let z = passed ps vs (suc i) (suc (t .0)) q τ1 (omega arith)
-            (held-kept ps vs σ τ1 (λ j. g .2 .other Temporary j refl) (λ a k. updated-other (g .0 .memory) (B + n) (value (g .0) (source pl 0)) a (λ e. omega arith) ∙ g .2 .memory a) (h .2))
-            (g .2 .other Fixed 1 refl ∙ hs) (t .2 .1) refl (ap suc (g .2 .here)) in
-      (z .0,
-      ran-most S (omega arith) (ran-trans S (g .1) (ran-step S {τ = τ1} (g .2 .on) (g .2 .here) (t .2 .0)
-        (sw-step (S .room) (source pl 0) n (g .0) (framed L A) (omega arith) (omega arith) (g .2 .other Fixed 1 refl ∙ hs)) (z .1))),
-      more (z .0) (g .0) (g .2) (g .3) (z .2))
+      (held-kept ps vs σ τ1 (λ j. g .2 .other Temporary j refl) (λ a k. updated-other (g .0 .memory) (B + n) (value (g .0) (source pl 0)) a (λ e. omega arith) ∙ g .2 .memory a) (h .2))
+      (g .2 .other Fixed 1 refl ∙ hs) (t .2 .1) refl (ap suc (g .2 .here)) in (
+        z .0,
+        ran-most S (omega arith) (ran-trans S (g .1) (ran-step S {τ = τ1} (g .2 .on) (g .2 .here) (t .2 .0)
+            (sw-step (S .room) (source pl 0) n (g .0) (framed L A) (omega arith) (omega arith) (g .2 .other Fixed 1 refl ∙ hs)) (z .1))),
+        more (z .0) (g .0) (g .2) (g .3) (z .2),
+      )
     where
       more : {r : ℕ} (τ γ : State) → Only Scratch 0 r σ γ → value γ (source pl 0) ≡ valueAt pl B σ
           → Passed (suc i) ps vs q (stores (B + (frame-bytes + 4 * localWord i)) (value γ (source pl 0)) γ) τ → Passed i (pl ∷ ps) (v ∷ vs) q σ τ
       more τ γ o e z = record {
-        on = z .on; here = z .here; fixed = λ j. z .fixed j ∙ o .other Fixed j refl; arguments = λ j. z .arguments j ∙ o .other Argument j refl;
-        temporaries = λ j. z .temporaries j ∙ o .other Temporary j refl; log = z .log ∙ o .log; len = ap suc (z .len); values = λ j k. each j k;
-        other = λ a k. z .other a (omega arith) ∙ updated-other (γ .memory) (B + (frame-bytes + 4 * localWord i)) (value γ (source pl 0)) a (λ e. omega arith) ∙ o .memory a }
+        on = z .on;
+        here = z .here;
+        fixed = λ j. z .fixed j ∙ o .other Fixed j refl;
+        arguments = λ j. z .arguments j ∙ o .other Argument j refl;
+        temporaries = λ j. z .temporaries j ∙ o .other Temporary j refl;
+        log = z .log ∙ o .log;
+        len = ap suc (z .len);
+        values = λ j k. each j k;
+        other = λ a k. z .other a (omega arith) ∙ updated-other (γ .memory) (B + (frame-bytes + 4 * localWord i)) (value γ (source pl 0)) a (λ e. omega arith) ∙ o .memory a;
+      }
         where
           each : (j : ℕ) → j < suc (length ps) → τ .memory (B + (frame-bytes + 4 * localWord (i + j))) ≡ getD (v ∷ vs) j 0
           each zero k =
@@ -136,19 +156,24 @@ module _ (L : Linked) (A : Activation L) where
       (σ, ran-none S, record { on = on; here = hp ∙ c; registers = refl; log = refl; values = λ i k. absurd (omega arith); other = λ a k. refl })
   saved (suc n) p q σ hf hs c on hp =
       let t = at-split (S .code) p (saves n) _ q c in
-      let z = saved n p (t .0) σ (omega arith) hs (t .1) on hp in
-      (stores (slot n) (z .0 .registers Temporary n) (z .0),
-      ran-most S (omega arith) (ran-trans S (z .1) (ran-step S (z .2 .on) (z .2 .here) (t .2 .0)
-        (sw-step (S .room) (reg Temporary n) (4 * temporaryWord n) (z .0) (framed L A) (omega arith) (omega arith) (ap (λ g. g Fixed 1) (z .2 .registers) ∙ hs)) (ran-none S {n = 0}))),
-      more (z .0) (t .0) (z .2) (t .2 .1))
+      let z = saved n p (t .0) σ (omega arith) hs (t .1) on hp in (
+        stores (slot n) (z .0 .registers Temporary n) (z .0),
+        ran-most S (omega arith) (ran-trans S (z .1) (ran-step S (z .2 .on) (z .2 .here) (t .2 .0)
+            (sw-step (S .room) (reg Temporary n) (4 * temporaryWord n) (z .0) (framed L A) (omega arith) (omega arith) (ap (λ g. g Fixed 1) (z .2 .registers) ∙ hs)) (ran-none S {n = 0}))),
+        more (z .0) (t .0) (z .2) (t .2 .1),
+      )
     where
       more : (τ : State) (r : ℕ) → Saved n r σ τ → suc r ≡ q → Saved (suc n) q σ (stores (slot n) (τ .registers Temporary n) τ)
       more τ r z e = record {
-        on = refl; here = ap suc (z .here) ∙ e; registers = z .registers; log = z .log;
+        on = refl;
+        here = ap suc (z .here) ∙ e;
+        registers = z .registers;
+        log = z .log;
         values = upto (λ (i : ℕ). updated (τ .memory) (slot n) (τ .registers Temporary n) (slot i) ≡ σ .registers Temporary i) n
-          (λ i k. updated-other (τ .memory) (slot n) (τ .registers Temporary n) (slot i) (λ e. omega arith) ∙ z .values i k)
-          (updated-same (τ .memory) (slot n) (τ .registers Temporary n) ∙ ap (λ g. g Temporary n) (z .registers));
-        other = λ a k. updated-other (τ .memory) (slot n) (τ .registers Temporary n) a (λ e. k n (omega arith) e) ∙ z .other a (λ i h e. k i (omega arith) e) }
+            (λ i k. updated-other (τ .memory) (slot n) (τ .registers Temporary n) (slot i) (λ e. omega arith) ∙ z .values i k)
+            (updated-same (τ .memory) (slot n) (τ .registers Temporary n) ∙ ap (λ g. g Temporary n) (z .registers));
+        other = λ a k. updated-other (τ .memory) (slot n) (τ .registers Temporary n) a (λ e. k n (omega arith) e) ∙ z .other a (λ i h e. k i (omega arith) e);
+      }
 
   record Loaded (n q : ℕ) (σ τ : State) : Type 0 where
     on : τ .status ≡ Going
@@ -166,20 +191,27 @@ module _ (L : Linked) (A : Activation L) where
       (σ, ran-none S, record { on = on; here = hp ∙ c; fixed = λ j. refl; arguments = λ j. refl; memory = λ a. refl; log = refl; values = λ i k. absurd (omega arith) })
   loaded (suc n) p q σ hf hs c on hp =
       let t = at-split (S .code) p (loads n) _ q c in
-      let z = loaded n p (t .0) σ (omega arith) hs (t .1) on hp in
-      (puts (reg Temporary n) (z .0 .memory (slot n)) (z .0),
-      ran-most S (omega arith) (ran-trans S (z .1) (ran-step S (z .2 .on) (z .2 .here) (t .2 .0)
-        (lw-step (S .room) (reg Temporary n) (4 * temporaryWord n) (z .0) (framed L A) (omega arith) (omega arith) (z .2 .fixed 1 ∙ hs)) (ran-none S {n = 0}))),
-      more (z .0) (t .0) (z .2) (t .2 .1))
+      let z = loaded n p (t .0) σ (omega arith) hs (t .1) on hp in (
+        puts (reg Temporary n) (z .0 .memory (slot n)) (z .0),
+        ran-most S (omega arith) (ran-trans S (z .1) (ran-step S (z .2 .on) (z .2 .here) (t .2 .0)
+            (lw-step (S .room) (reg Temporary n) (4 * temporaryWord n) (z .0) (framed L A) (omega arith) (omega arith) (z .2 .fixed 1 ∙ hs)) (ran-none S {n = 0}))),
+        more (z .0) (t .0) (z .2) (t .2 .1),
+      )
     where
       more : (τ : State) (r : ℕ) → Loaded n r σ τ → suc r ≡ q → Loaded (suc n) q σ (puts (reg Temporary n) (τ .memory (slot n)) τ)
       more τ r z e =
           let o = only-puts Temporary n (τ .memory (slot n)) q τ (ap suc (z .here) ∙ e) in
           record {
-            on = refl; here = ap suc (z .here) ∙ e; fixed = z .fixed; arguments = z .arguments; memory = z .memory; log = z .log;
+            on = refl;
+            here = ap suc (z .here) ∙ e;
+            fixed = z .fixed;
+            arguments = z .arguments;
+            memory = z .memory;
+            log = z .log;
             values = upto (λ (i : ℕ). puts (reg Temporary n) (τ .memory (slot n)) τ .registers Temporary i ≡ σ .memory (slot i)) n
-              (λ i k. o .other Temporary i (apart Temporary n i (λ e. omega arith)) ∙ z .values i k)
-              (put-same Temporary n (τ .memory (slot n)) τ ∙ z .memory (slot n)) }
+                (λ i k. o .other Temporary i (apart Temporary n i (λ e. omega arith)) ∙ z .values i k)
+                (put-same Temporary n (τ .memory (slot n)) τ ∙ z .memory (slot n));
+          }
 
   registers-most : (d : ℕ) → (registersOf d ≤ d) × (registersOf d ≤ 7)
   registers-most d = go (inRegister d) refl
@@ -223,7 +255,7 @@ module _ (L : Linked) (A : Activation L) where
       let cm = registers-most d in
       let F = framed L A in
       let sp-back : aluOf Add (ρ .registers Fixed 1) (2 ^ 32 - frame-bytes) ≡ B =
-            ap (λ (n : ℕ). aluOf Add n (2 ^ 32 - frame-bytes)) (Z .sp-is) ∙ back-is B (omega (arith, F .top)) in
+      ap (λ (n : ℕ). aluOf Add n (2 ^ 32 - frame-bytes)) (Z .sp-is) ∙ back-is B (omega (arith, F .top)) in
       let ρ1 : State = puts sp (aluOf Add (ρ .registers Fixed 1) (2 ^ 32 - frame-bytes)) ρ in
       let g = loaded (registersOf d) (suc r) q ρ1 (cm .1) sp-back (hc .1) refl (ap suc (Z .here)) in
       sound-ran S 8 (omega arith) (ran-most S (omega arith) (ran-step S {τ = ρ1} (Z .on) (Z .here) (hc .0) refl (g .1)))
@@ -234,15 +266,26 @@ module _ (L : Linked) (A : Activation L) where
           → Sound S (goes v ls w2) (K * w2 .fuel + 10 - 8) (w2 .fuel) 0 (Returned τ d q ls₀ f) γ
       done γ g sp-back =
           let keeps : (a : ℕ) → stack-start ≤ a → a < B + 4 * temporaryWord 0 → γ .memory a ≡ τ .memory a =
-                λ a h1 h2. g .memory a ∙ Z .below a h1 (omega arith) ∙ Y .low a h2 in
+          λ a h1 h2. g .memory a ∙ Z .below a h1 (omega arith) ∙ Y .low a h2 in
           sound-end S (omega arith) (omega arith) (record {
-            on = g .on; here = g .here; is = g .arguments 0 ∙ Z .is; keep = λ j hj. spot j hj (inRegister j) refl; locals = he; less = Z .less;
+            on = g .on;
+            here = g .here;
+            is = g .arguments 0 ∙ Z .is;
+            keep = λ j hj. spot j hj (inRegister j) refl;
+            locals = he;
+            less = Z .less;
             cor = record {
-              sp-is = g .fixed 1 ∙ sp-back; limit-is = g .fixed 2 ∙ Z .limit-is; request-is = g .arguments 7 ∙ Z .request-is; log-is = g .log ∙ Z .log-is;
-              arrays = arrays-same L A (λ a h. g .memory a) (Z .arrays); many = ap length he ∙ c .many;
+              sp-is = g .fixed 1 ∙ sp-back;
+              limit-is = g .fixed 2 ∙ Z .limit-is;
+              request-is = g .arguments 7 ∙ Z .request-is;
+              log-is = g .log ∙ Z .log-is;
+              arrays = arrays-same L A (λ a h. g .memory a) (Z .arrays);
+              many = ap length he ∙ c .many;
               locals = λ y h. keeps _ (omega (arith, high L A)) (omega (arith, A .few)) ∙ c .locals y h ∙ ap (λ (l : List ℕ). getD l y 0) (sym he);
               ra-is = keeps _ (omega (arith, high L A)) (omega arith) ∙ c .ra-is;
-              below = λ a h1 h2. keeps a h1 (omega arith) ∙ c .below a h1 h2 } })
+              below = λ a h1 h2. keeps a h1 (omega arith) ∙ c .below a h1 h2;
+            };
+          })
         where
           spot : (j : ℕ) → j < d → (t : Bool) → inRegister j ≡ t → valueAt (temporary j) B γ ≡ valueAt (temporary j) B τ
           spot j hj true e =
@@ -256,20 +299,28 @@ module _ (L : Linked) (A : Activation L) where
   enters f vs d r q ls w τ ω hd c Y hf har hc =
       let F = framed L A in
       let sp-is : aluOf Add (ω .registers Fixed 1) frame-bytes ≡ B + frame-bytes =
-            ap (λ (n : ℕ). aluOf Add n frame-bytes) (Y .fixed 1 ∙ c .sp-is) ∙ sum-is B frame-bytes (omega (arith, F .top)) in
+      ap (λ (n : ℕ). aluOf Add n frame-bytes) (Y .fixed 1 ∙ c .sp-is) ∙ sum-is B frame-bytes (omega (arith, F .top)) in
       let ω1 : State = puts sp (aluOf Add (ω .registers Fixed 1) frame-bytes) ω in
       let ω2 : State = state Going (L .entry f) (set ra (pos (suc (ω1 .pc))) (ω1 .registers)) (ω .memory) (ω .log) in
       sound-ran S 1 (omega arith) (ran-step S {τ = ω1} (Y .on) (Y .here) (hc .0) refl (ran-none S))
       (sound-step S {z2 = C} {τ = ω2} refl (ap suc (Y .here)) (hc .1 .0) refl (omega arith) (omega arith)
       (sound-then S {z2 = 0} (callAt (S .room) (L .functions) (A .left) f vs ls w) 10 (omega arith) (omega arith) (omega arith)
       (A .under .run f vs ls w (suc (suc r)) ω2 (record {
-        on = refl; here = refl; known = hf; arity = har; room = ap (λ (n : ℕ). n + frame-bytes * A .left) sp-is ∙ (let y : B + frame-bytes + frame-bytes * A .left ≡ stack-end = omega (arith, A .room) in y);
-        limit-is = Y .fixed 2 ∙ c .limit-is; request-is = Y .arguments 7 ∙ c .request-is; ra-is = ap (λ (n : ℕ). pos (suc (suc n))) (Y .here);
+        on = refl;
+        here = refl;
+        known = hf;
+        arity = har;
+        room = ap (λ (n : ℕ). n + frame-bytes * A .left) sp-is ∙ (let y : B + frame-bytes + frame-bytes * A .left ≡ stack-end = omega (arith, A .room) in y);
+        limit-is = Y .fixed 2 ∙ c .limit-is;
+        request-is = Y .arguments 7 ∙ c .request-is;
+        ra-is = ap (λ (n : ℕ). pos (suc (suc n))) (Y .here);
         values = λ i k. ap (λ (n : ℕ). ω .memory (n + 4 * localWord i)) sp-is ∙ ap (λ (n : ℕ). ω .memory n) (let y : B + frame-bytes + 4 * localWord i ≡ B + (frame-bytes + 4 * localWord i) = omega arith in y) ∙ Y .values i k;
-        log-is = Y .log ∙ c .log-is; arrays = arrays-same L A (λ a h. Y .low a (omega (arith, high L A))) (c .arrays) }))
+        log-is = Y .log ∙ c .log-is;
+        arrays = arrays-same L A (λ a h. Y .low a (omega (arith, high L A))) (c .arrays);
+      }))
       (λ v ls′ w2 ρ Z. comes d r (suc (suc r)) q v (w .fuel) ls ls′ w w2 τ ω ρ hd c (Z .1)
-        (record { on = Y .on; here = Y .here; fixed = Y .fixed; arguments = Y .arguments; log = Y .log; values = λ i k. absurd (omega arith); slots = Y .slots; low = Y .low })
-        (hc .1 .1) (subst (λ (n : ℕ). Back (S .elements) n (suc (suc r)) (ω .memory) (w .fuel) v w2 ρ) sp-is (Z .0)))))
+      (record { on = Y .on; here = Y .here; fixed = Y .fixed; arguments = Y .arguments; log = Y .log; values = λ i k. absurd (omega arith); slots = Y .slots; low = Y .low })
+      (hc .1 .1) (subst (λ (n : ℕ). Back (S .elements) n (suc (suc r)) (ω .memory) (w .fuel) v w2 ρ) sp-is (Z .0)))))
 
   pub calls : (f : ℕ) (vs : List ℕ) (ps : List Place) (d p q : ℕ) (ls : List ℕ) (w : World) (τ : State) → d ≤ 431 → τ .status ≡ Going → τ .pc ≡ p → Cor L A ls w τ
       → Held ps vs τ → f < length (L .functions) → length ps ≡ getD (L .functions) f nothing .parameters → length ps ≤ 8 → At (S .code) p (calling (L .entry f) ps d) q
@@ -288,11 +339,15 @@ module _ (L : Linked) (A : Activation L) where
       prepared γ ω k r g h =
           let cm = registers-most d in
           record {
-            on = h .on; here = h .here; fixed = λ j. ap (λ x. x Fixed j) (h .registers) ∙ g .fixed j; arguments = λ j. ap (λ x. x Argument j) (h .registers) ∙ g .arguments j;
+            on = h .on;
+            here = h .here;
+            fixed = λ j. ap (λ x. x Fixed j) (h .registers) ∙ g .fixed j;
+            arguments = λ j. ap (λ x. x Argument j) (h .registers) ∙ g .arguments j;
             log = h .log ∙ g .log;
             values = λ i hi. h .other _ (λ j hj e. omega arith) ∙ ap (λ (n : ℕ). γ .memory (B + (frame-bytes + 4 * localWord n))) (sym (zero-add i)) ∙ g .values i (omega (arith, g .len));
             slots = λ j hj. spot j hj (inRegister j) refl;
-            low = λ a ha. h .other a (λ i hi e. omega arith) ∙ g .other a (omega arith) }
+            low = λ a ha. h .other a (λ i hi e. omega arith) ∙ g .other a (omega arith);
+          }
         where
           spot : (j : ℕ) → j < d → (t : Bool) → inRegister j ≡ t → ω .memory (slot j) ≡ valueAt (temporary j) B τ
           spot j hj true e = h .values j (registers-in d j hj (ltb-true j 7 e)) ∙ g .temporaries j ∙ sym (ap (λ (t : Bool). valueBy t j B τ) e)

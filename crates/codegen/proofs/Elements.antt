@@ -67,15 +67,18 @@ module _ (S : Setting) where
     where
       go : (α : State) (r : ℕ) → Ran S 4 ρ α → Same B d r ρ α → value α (source pl 0) ≡ i → α .registers Scratch 1 ≡ a .size
           → At (S .code) r (branch Ltu (source pl 0) (scratch 1) 2 ∷ call (stub 2) ∷ shift Sll (scratch 0) (source pl 0) 2
-            ∷ lui (scratch 1) (upperOf (address a 0)) ∷ op Add (scratch 0) (scratch 0) (scratch 1) ∷ []) q
+          ∷ lui (scratch 1) (upperOf (address a 0)) ∷ op Add (scratch 0) (scratch 0) (scratch 1) ∷ []) q
           → (b : Bool) → ltb i (a .size) ≡ b → Located b B d q (lowerOf (address a 0)) i a ρ
       go α r ran G hv hz c false e =
           record {
-            at = suc r; to = goto (suc r) α;
+            at = suc r;
+            to = goto (suc r) α;
             ran = ran-most S (omega arith) (ran-trans S ran (ran-step S (G .on) (G .here) (c .0)
-              (ap (λ (t : Bool). goto (pick t (α .pc + 2) (suc (α .pc))) α) (less-is _ _ ∙ ap (λ (w : ℕ). ltb w (α .registers Scratch 1)) hv ∙ ap (λ (w : ℕ). ltb i w) hz ∙ e)
-              ∙ ap (λ (k : ℕ). goto (suc k) α) (G .here)) (ran-none S {n = 0})));
-            same = same-join G (same-goto B d (suc r) α); here = c .1 .0 }
+                (ap (λ (t : Bool). goto (pick t (α .pc + 2) (suc (α .pc))) α) (less-is _ _ ∙ ap (λ (w : ℕ). ltb w (α .registers Scratch 1)) hv ∙ ap (λ (w : ℕ). ltb i w) hz ∙ e)
+                ∙ ap (λ (k : ℕ). goto (suc k) α) (G .here)) (ran-none S {n = 0})));
+            same = same-join G (same-goto B d (suc r) α);
+            here = c .1 .0;
+          }
       go α r ran G hv hz c true e =
           let k : i < a .size = ltb-true _ _ e in
           let β : State = goto (suc (suc r)) α in
@@ -85,17 +88,18 @@ module _ (S : Setting) where
           record {
             to = ε;
             ran = ran-trans S ran (ran-step S {τ = β} (G .on) (G .here) (c .0)
-              (ap (λ (t : Bool). goto (pick t (α .pc + 2) (suc (α .pc))) α) (less-is _ _ ∙ ap (λ (w : ℕ). ltb w (α .registers Scratch 1)) hv ∙ ap (λ (w : ℕ). ltb i w) hz ∙ e)
-              ∙ ap (λ (k : ℕ). goto k α) (let y : α .pc + 2 ≡ suc (suc r) = omega (arith, G .here) in y))
-              (ran-step S {τ = γ} refl refl (c .1 .1 .0) refl
-              (ran-step S {τ = δ} refl refl (c .1 .1 .1 .0) refl
-              (ran-step S {τ = ε} refl refl (c .1 .1 .1 .1 .0) refl (ran-none S {n = 0})))));
+                (ap (λ (t : Bool). goto (pick t (α .pc + 2) (suc (α .pc))) α) (less-is _ _ ∙ ap (λ (w : ℕ). ltb w (α .registers Scratch 1)) hv ∙ ap (λ (w : ℕ). ltb i w) hz ∙ e)
+                ∙ ap (λ (k : ℕ). goto k α) (let y : α .pc + 2 ≡ suc (suc r) = omega (arith, G .here) in y))
+                (ran-step S {τ = γ} refl refl (c .1 .1 .0) refl
+                (ran-step S {τ = δ} refl refl (c .1 .1 .1 .0) refl
+                (ran-step S {τ = ε} refl refl (c .1 .1 .1 .1 .0) refl (ran-none S {n = 0})))));
             same = same-join G (same-join (same-goto B d (suc (suc r)) α)
-              (same-join (only-same (only-puts Scratch 0 (aluOf Sll (value α (source pl 0)) 2) (suc (suc (suc r))) β refl))
-              (same-join (only-same (only-puts Scratch 1 (upperOf (address a 0)) (suc (suc (suc (suc r)))) γ refl))
-              (only-same (only-puts Scratch 0 (aluOf Add (δ .registers Scratch 0) (δ .registers Scratch 1)) q δ (c .1 .1 .1 .1 .1))))));
+                (same-join (only-same (only-puts Scratch 0 (aluOf Sll (value α (source pl 0)) 2) (suc (suc (suc r))) β refl))
+                (same-join (only-same (only-puts Scratch 1 (upperOf (address a 0)) (suc (suc (suc (suc r)))) γ refl))
+                (only-same (only-puts Scratch 0 (aluOf Add (δ .registers Scratch 0) (δ .registers Scratch 1)) q δ (c .1 .1 .1 .1 .1))))));
             is = ap (λ (w : ℕ). addW (aluOf Add (aluOf Sll w 2) (upperOf (address a 0))) (lowerOf (address a 0))) hv
-              ∙ sum-is i (address a 0) (omega arith) (omega arith) ∙ (let y : data-start + 4 * (a .offset + 0) + 4 * i ≡ address a i = omega arith in y) }
+                ∙ sum-is i (address a 0) (omega arith) (omega arith) ∙ (let y : data-start + 4 * (a .offset + 0) + 4 * i ≡ address a i = omega arith in y);
+          }
 
   pub located : {B : ℕ} (a : Array) (pl : Place) (d p q i : ℕ) (ρ : State) → Framed B → There pl → ρ .registers Fixed 1 ≡ B → a .offset + a .size ≤ 16384
       → At (S .code) p (locate a pl) q → ρ .status ≡ Going → ρ .pc ≡ p → valueAt pl B ρ ≡ i
@@ -108,9 +112,11 @@ module _ (S : Setting) where
       go true e2 hc true e =
           let k : n < a .size = ltb-true _ _ e2 in
           record {
-            to = puts (scratch 0) (upperOf (address a n)) ρ; ran = ran-step S on hp (hc .0) refl (ran-none S);
+            to = puts (scratch 0) (upperOf (address a n)) ρ;
+            ran = ran-step S on hp (hc .0) refl (ran-none S);
             same = only-same (only-puts Scratch 0 _ q ρ (ap suc hp ∙ hc .1));
-            is = parts (address a n) (omega arith) ∙ ap (λ (w : ℕ). address a w) hi }
+            is = parts (address a n) (omega arith) ∙ ap (λ (w : ℕ). address a w) hi;
+          }
       go true e2 hc false e = absurd (true≢false (sym e2 ∙ ap (λ (w : ℕ). ltb w (a .size)) hi ∙ e))
   located a (local y) d p q i ρ F th hs ha hc on hp hi b e = tested a (local y) d p q i ρ F th hs ha hc on hp hi b e
   located a (temporary j) d p q i ρ F th hs ha hc on hp hi b e = tested a (temporary j) d p q i ρ F th hs ha hc on hp hi b e

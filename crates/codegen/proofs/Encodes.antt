@@ -51,6 +51,7 @@ module _ (p : Program) (O : Owed p) (fits : length (instructionsOf p) ≤ 131072
       reach : (t : Bool) → nearIn g ≡ t → length (functionBy (entryOf p) t g) ≤ 131072 → Within t (length (functionBy (entryOf p) t g))
       reach true e h = let k = short-enough g e in let b = by-len true (entryOf p) (λ _. 0) g in omega (arith, k, b)
       reach false e h = h
+
       go : (t : Bool) → nearIn g ≡ t → length (functionBy (entryOf p) t g) ≤ 131072 → AllFine (functionBy (entryOf p) t g)
       go t e h =
           fine-by (p .functions) (p .elements) (O .few-elements) (entryOf p) (λ f k. low f) (λ f k. O .each f k .few) (g .parameters + g .lets) (P .locals) t g refl (P .body) (reach t e h)
@@ -65,16 +66,41 @@ module _ (p : Program) (O : Owed p) (fits : length (instructionsOf p) ≤ 131072
 
   fine-starting : AllFine (starting (entryOf p (p .main)))
   unfolding Fine
-  fine-starting =
-      ((omega arith, (omega arith, refl)), ((omega arith, (omega arith, refl)), ((refl, omega arith, tt, small 1 (omega arith)), (low (p .main),
-      ((refl, omega arith, tt, small 0 (omega arith)), (tt, tt))))))
+  fine-starting = (
+    (omega arith, (omega arith, refl)),
+    (
+      (omega arith, (omega arith, refl)),
+      (
+        (refl, omega arith, tt, small 1 (omega arith)),
+        (
+          low (p .main),
+          ((refl, omega arith, tt, small 0 (omega arith)), (tt, tt)),
+        ),
+      ),
+    ),
+  )
 
   fine-traps : AllFine traps
   unfolding Fine
-  fine-traps =
-      ((refl, omega arith, tt, small 1 (omega arith)), ((refl, omega arith, tt, small 2 (omega arith)), (tt,
-      ((refl, omega arith, tt, small 2 (omega arith)), ((refl, omega arith, tt, small 2 (omega arith)), (tt,
-      ((refl, omega arith, tt, small 3 (omega arith)), ((refl, omega arith, tt, small 2 (omega arith)), (tt, tt)))))))))
+  fine-traps = (
+    (refl, omega arith, tt, small 1 (omega arith)),
+    (
+      (refl, omega arith, tt, small 2 (omega arith)),
+      (
+        tt,
+        (
+          (refl, omega arith, tt, small 2 (omega arith)),
+          (
+            (refl, omega arith, tt, small 2 (omega arith)),
+            (
+              tt,
+              ((refl, omega arith, tt, small 3 (omega arith)), ((refl, omega arith, tt, small 2 (omega arith)), (tt, tt))),
+            ),
+          ),
+        ),
+      ),
+    ),
+  )
 
   pub fine : AllFine (instructionsOf p)
   unfolding instructionsOf

@@ -75,69 +75,87 @@ module _ (L : Linked) (A : Activation L) where
   ready h Q = record { on = Q .on; cor = Q .cor; keep = Q .keep; locals = Q .locals; less = omega (arith, Q .less) }
 
   number-in : (n d p : ℕ) → ExprIn (λ ls w. bind (begin ls w) (λ _. gives n)) 1 d p p (constant n)
-  number-in n d p = record { run = λ ls w σ on hp c. sound-begin S ls w _ on (c .log-is) (λ f e.
-      sound-end S (omega arith) (omega arith) (record { on = on; here = hp; cor = core-spent L A f c; is = refl; keep = λ j h. refl; locals = refl; less = omega arith })) }
+  number-in n d p = record {
+    run = λ ls w σ on hp c. sound-begin S ls w _ on (c .log-is) (λ f e.
+        sound-end S (omega arith) (omega arith) (record { on = on; here = hp; cor = core-spent L A f c; is = refl; keep = λ j h. refl; locals = refl; less = omega arith }));
+  }
 
   local-in : (x d p : ℕ) → x < A .N → ExprIn (λ ls w. bind (begin ls w) (λ _. fetchLocal x)) 1 d p p (local x)
   unfolding fetchLocal
-  local-in x d p h = record { run = λ ls w σ on hp c. sound-begin S ls w _ on (c .log-is) (λ f e.
-      sound-end S (omega arith) (omega arith) (record { on = on; here = hp; cor = core-spent L A f c; is = c .locals x h; keep = λ j h. refl; locals = refl; less = omega arith })) }
+  local-in x d p h = record {
+    run = λ ls w σ on hp c. sound-begin S ls w _ on (c .log-is) (λ f e.
+        sound-end S (omega arith) (omega arith) (record { on = on; here = hp; cor = core-spent L A f c; is = c .locals x h; keep = λ j h. refl; locals = refl; less = omega arith }));
+  }
 
   element-in : (m : Act ℕ) (a : Array) (z d p r q : ℕ) (pl : Place) → Fit L A pl d → d < 431 → a .offset + a .size ≤ S .elements
       → ExprIn m z d p r pl → At (S .code) r (reading a pl d) q
       → ExprIn (λ ls w. bind (begin ls w) (λ _ ls w. bind (m ls w) (λ k. read a k))) (suc z) d p q (temporary d)
-  element-in m a z d p r q pl hf hd ha I hc = record { run = λ ls w σ on hp c. sound-begin S ls w _ on (c .log-is) (λ f e.
-      sound-bind S {z2 = 0} 128 (omega arith) (omega arith) (omega arith) (I .run ls (spent f w) σ on hp (core-spent L A f c))
-      (λ k ls2 w2 τ Q. sound-rates S (read a k ls2 w2) (omega arith) (omega arith)
-        (reads L A a k d r q (w .fuel) pl ls ls2 w2 σ τ hd (there L A pl d hf) ha (ready (omega arith) Q) (Q .here) (Q .is) hc))) }
+  element-in m a z d p r q pl hf hd ha I hc = record {
+    run = λ ls w σ on hp c. sound-begin S ls w _ on (c .log-is) (λ f e.
+        sound-bind S {z2 = 0} 128 (omega arith) (omega arith) (omega arith) (I .run ls (spent f w) σ on hp (core-spent L A f c))
+        (λ k ls2 w2 τ Q. sound-rates S (read a k ls2 w2) (omega arith) (omega arith)
+        (reads L A a k d r q (w .fuel) pl ls ls2 w2 σ τ hd (there L A pl d hf) ha (ready (omega arith) Q) (Q .here) (Q .is) hc)));
+  }
 
   unary-in : (m : Act ℕ) (o : Unary) (z d p r q : ℕ) (pl : Place) → Fit L A pl d → d < 431
       → ExprIn m z d p r pl → At (S .code) r (applying o pl d) q
       → ExprIn (λ ls w. bind (begin ls w) (λ _ ls w. bind (m ls w) (λ x. gives (apply o x)))) (suc z) d p q (result o pl d)
-  unary-in m o z d p r q pl hf hd I hc = record { run = λ ls w σ on hp c. sound-begin S ls w _ on (c .log-is) (λ f e.
-      sound-bind S {z2 = 0} 128 (omega arith) (omega arith) (omega arith) (I .run ls (spent f w) σ on hp (core-spent L A f c))
-      (λ k ls2 w2 τ Q. sound-rates S (goes (apply o k) ls2 w2) (omega arith) (omega arith)
-        (applies L A o k d r q (w .fuel) pl ls ls2 w2 σ τ hd (there L A pl d hf) (ready (omega arith) Q) (Q .here) (Q .is) hc))) }
+  unary-in m o z d p r q pl hf hd I hc = record {
+    run = λ ls w σ on hp c. sound-begin S ls w _ on (c .log-is) (λ f e.
+        sound-bind S {z2 = 0} 128 (omega arith) (omega arith) (omega arith) (I .run ls (spent f w) σ on hp (core-spent L A f c))
+        (λ k ls2 w2 τ Q. sound-rates S (goes (apply o k) ls2 w2) (omega arith) (omega arith)
+        (applies L A o k d r q (w .fuel) pl ls ls2 w2 σ τ hd (there L A pl d hf) (ready (omega arith) Q) (Q .here) (Q .is) hc)));
+  }
 
   -- both sides, and then something that needs both at their places
   sides-in : (ma mb : Act ℕ) (g : ℕ → ℕ → Act ℕ) (R : State → List ℕ → ℕ → Post ℕ) (za zb d p r u : ℕ) (pa pb : Place) → Fit L A pa d → Fit L A pb (above pa d)
       → ExprIn ma za d p r pa → ExprIn mb zb (above pa d) r u pb
       → ((x y f : ℕ) (ls₀ ls : List ℕ) (w : World) (σ ρ : State) → Ready L A σ d ls₀ f ls w ρ → ρ .pc ≡ u → valueAt pa B ρ ≡ x → valueAt pb B ρ ≡ y
-          → Sound S (g x y ls w) (K * w .fuel + 124) (w .fuel) 0 (R σ ls₀ f) ρ)
+      → Sound S (g x y ls w) (K * w .fuel + 124) (w .fuel) 0 (R σ ls₀ f) ρ)
       → (ls : List ℕ) (w : World) (σ : State) → σ .status ≡ Going → σ .pc ≡ p → Cor L A ls w σ
       → Sound S (bind (begin ls w) (λ _ ls w. bind (ma ls w) (λ x ls w. bind (mb ls w) (λ y. g x y)))) (K * w .fuel - 128) (w .fuel) (suc (za + zb)) (R σ ls (w .fuel)) σ
   sides-in ma mb g R za zb d p r u pa pb fa fb I J last ls w σ on hp c = sound-begin S ls w _ on (c .log-is) (λ f e.
       sound-bind S {z2 = zb} 128 (omega arith) (omega arith) (omega arith) (I .run ls (spent f w) σ on hp (core-spent L A f c))
       (λ x ls2 w2 τ Q. sound-bind S {z2 = 0} 124 (omega arith) (omega arith) (omega arith) (J .run ls2 w2 τ (Q .on) (Q .here) (Q .cor))
       (λ y ls3 w3 ρ Z. last x y (w .fuel) ls ls3 w3 σ ρ (record {
-          on = Z .on; cor = Z .cor; keep = λ j h. Z .keep j (let k : d ≤ above pa d = above-le L A pa d in omega (arith, k)) ∙ Q .keep j h; locals = Z .locals ∙ Q .locals;
-          less = omega (arith, Q .less, Z .less) })
-        (Z .here) (still L A pa d x ls2 ls3 w2 w3 τ ρ fa (Q .is) (Q .cor) (Z .cor) (Z .locals) (Z .keep)) (Z .is))))
+        on = Z .on;
+        cor = Z .cor;
+        keep = λ j h. Z .keep j (let k : d ≤ above pa d = above-le L A pa d in omega (arith, k)) ∙ Q .keep j h;
+        locals = Z .locals ∙ Q .locals;
+        less = omega (arith, Q .less, Z .less);
+      })
+      (Z .here) (still L A pa d x ls2 ls3 w2 w3 τ ρ fa (Q .is) (Q .cor) (Z .cor) (Z .locals) (Z .keep)) (Z .is))))
 
   strict-in : (ma mb : Act ℕ) (o : Strict) (za zb d p r u q : ℕ) (pa pb : Place) → Fit L A pa d → Fit L A pb (above pa d) → d < 431
       → ExprIn ma za d p r pa → ExprIn mb zb (above pa d) r u pb → At (S .code) u (operating o pa pb d) q
       → ExprIn (λ ls w. bind (begin ls w) (λ _ ls w. bind (ma ls w) (λ x ls w. bind (mb ls w) (λ y. operate o x y)))) (suc (za + zb)) d p q (temporary d)
-  strict-in ma mb o za zb d p r u q pa pb fa fb hd I J hc = record { run =
-      sides-in ma mb (operate o) (λ σ ls₀ f. ExprPost L A σ d q (temporary d) ls₀ f) za zb d p r u pa pb fa fb I J
-      (λ x y f ls₀ ls w σ ρ Y hp hx hy. operates L A o x y d (suc (above pa d)) u q f pa pb ls₀ ls w σ ρ hd (there L A pa d fa) (there L A pb (above pa d) fb)
-        (let k : d ≤ above pa d = above-le L A pa d in omega (arith, k)) (stable L A pb (above pa d) (suc (above pa d)) fb (omega arith)) Y hp hx hy hc) }
+  strict-in ma mb o za zb d p r u q pa pb fa fb hd I J hc = record {
+    run =
+        sides-in ma mb (operate o) (λ σ ls₀ f. ExprPost L A σ d q (temporary d) ls₀ f) za zb d p r u pa pb fa fb I J
+        (λ x y f ls₀ ls w σ ρ Y hp hx hy. operates L A o x y d (suc (above pa d)) u q f pa pb ls₀ ls w σ ρ hd (there L A pa d fa) (there L A pb (above pa d) fb)
+        (let k : d ≤ above pa d = above-le L A pa d in omega (arith, k)) (stable L A pb (above pa d) (suc (above pa d)) fb (omega arith)) Y hp hx hy hc);
+  }
 
   compare-in : (ma mb : Act ℕ) (o : Strict) (c : Cond) (turned t : Bool) (za zb d p r u q k : ℕ) (pa pb : Place) → Law (some (c, turned)) o
       → Fit L A pa d → Fit L A pb (above pa d)
       → ExprIn ma za d p r pa → ExprIn mb zb (above pa d) r u pb → At (S .code) u (comparing (A .near) t c turned pa pb k) q
       → CondIn (λ ls w. bind (begin ls w) (λ _ ls w. bind (ma ls w) (λ x ls w. bind (mb ls w) (λ y. operate o x y)))) (suc (za + zb)) t d p q k
-  compare-in ma mb o c turned t za zb d p r u q k pa pb e fa fb I J hc = record { run = λ ls w σ on hp cr.
-      sound-rates S _ (omega arith) (omega arith)
-      (sides-in ma mb (operate o) (λ σ ls₀ f. CondPost L A t σ d q k ls₀ f) za zb d p r u pa pb fa fb I J
-      (λ x y f ls₀ ls w σ ρ Y hp hx hy. subst (λ (v : Result ℕ). Sound S v (K * w .fuel + 124) (w .fuel) 0 (CondPost L A t σ d q k ls₀ f) ρ) (sym (e x y ls w))
+  compare-in ma mb o c turned t za zb d p r u q k pa pb e fa fb I J hc = record {
+    run = λ ls w σ on hp cr.
+        sound-rates S _ (omega arith) (omega arith)
+        (sides-in ma mb (operate o) (λ σ ls₀ f. CondPost L A t σ d q k ls₀ f) za zb d p r u pa pb fa fb I J
+        (λ x y f ls₀ ls w σ ρ Y hp hx hy. subst (λ (v : Result ℕ). Sound S v (K * w .fuel + 124) (w .fuel) 0 (CondPost L A t σ d q k ls₀ f) ρ) (sym (e x y ls w))
         (compares L A c turned t (A .near) x y d (suc (above pa d)) u q k f pa pb ls₀ ls w σ ρ (there L A pa d fa) (there L A pb (above pa d) fb)
-        (let k : d ≤ above pa d = above-le L A pa d in omega (arith, k)) (stable L A pb (above pa d) (suc (above pa d)) fb (omega arith)) Y hp hx hy hc)) ls w σ on hp cr) }
+        (let k : d ≤ above pa d = above-le L A pa d in omega (arith, k)) (stable L A pb (above pa d) (suc (above pa d)) fb (omega arith)) Y hp hx hy hc)) ls w σ on hp cr);
+  }
 
   -- a value that is tested
   test-in : (m : Act ℕ) (t : Bool) (z d p r q k : ℕ) (pl : Place) → Fit L A pl d → ExprIn m z d p r pl → At (S .code) r (testing (A .near) t pl k) q → CondIn m z t d p q k
-  test-in m t z d p r q k pl hf I hc = record { run = λ ls w σ on hp c.
-      sound-then′ S {z2 = 0} (m ls w) 4 (omega arith) (λ _ _ _ _ Q. omega (arith, Q .less)) (omega arith) (omega arith) (I .run ls w σ on hp c)
-      (λ v ls2 w2 τ Q. tests L A t (A .near) v d r q k (w .fuel) pl ls ls2 w2 σ τ (there L A pl d hf) (ready (omega arith) Q) (Q .here) (Q .is) hc) }
+  test-in m t z d p r q k pl hf I hc = record {
+    run = λ ls w σ on hp c.
+        sound-then′ S {z2 = 0} (m ls w) 4 (omega arith) (λ _ _ _ _ Q. omega (arith, Q .less)) (omega arith) (omega arith) (I .run ls w σ on hp c)
+        (λ v ls2 w2 τ Q. tests L A t (A .near) v d r q k (w .fuel) pl ls ls2 w2 σ τ (there L A pl d hf) (ready (omega arith) Q) (Q .here) (Q .is) hc);
+  }
 
   always-in : (n d p q k : ℕ) (t : Bool) → At (S .code) p (always t n k) q → CondIn (λ ls w. bind (begin ls w) (λ _. gives n)) 1 t d p q k
   always-in n d p q k t hc = record { run = λ ls w σ on hp c. sound-begin S ls w _ on (c .log-is) (λ f e. go n t hc ls w σ f e on hp c) }
@@ -146,14 +164,21 @@ module _ (L : Linked) (A : Activation L) where
           → Sound S (goes n ls (spent f w)) (K * w .fuel - 96) f 0 (CondPost L A t σ d q k ls (w .fuel)) σ
       stay n t ls w σ f e on h c =
           sound-end S (omega arith) (omega arith) (record { on = on; here = h; cor = core-spent L A f c; keep = λ j h. refl; locals = refl; less = omega arith })
+
       jumps : (n : ℕ) (t : Bool) → aim L A t n q k ≡ q + k → getD (S .code) p bad ≡ jump (suc k) → suc p ≡ q
           → (ls : List ℕ) (w : World) (σ : State) (f : ℕ) → w .fuel ≡ suc f → σ .status ≡ Going → σ .pc ≡ p → Cor L A ls w σ
           → Sound S (goes n ls (spent f w)) (K * w .fuel - 96) f 0 (CondPost L A t σ d q k ls (w .fuel)) σ
       jumps n t ha hj hq ls w σ f e on hp c =
           sound-ran S 1 (omega arith) (ran-step S {τ = goto (σ .pc + suc k) σ} on hp hj refl (ran-none S))
           (sound-end S (omega arith) (omega arith) (record {
-            on = refl; here = (let y : σ .pc + suc k ≡ q + k = omega arith in y) ∙ sym ha; cor = core-spent L A f c;
-            keep = λ j h. value-same (temporary j) h (same-goto B d _ σ); locals = refl; less = omega arith }))
+            on = refl;
+            here = (let y : σ .pc + suc k ≡ q + k = omega arith in y) ∙ sym ha;
+            cor = core-spent L A f c;
+            keep = λ j h. value-same (temporary j) h (same-goto B d _ σ);
+            locals = refl;
+            less = omega arith;
+          }))
+
       go : (n : ℕ) (t : Bool) → At (S .code) p (always t n k) q → (ls : List ℕ) (w : World) (σ : State) (f : ℕ) → w .fuel ≡ suc f → σ .status ≡ Going → σ .pc ≡ p → Cor L A ls w σ
           → Sound S (goes n ls (spent f w)) (K * w .fuel - 96) f 0 (CondPost L A t σ d q k ls (w .fuel)) σ
       go zero true hc ls w σ f e on hp c = stay zero true ls w σ f e on (hp ∙ hc) c
@@ -173,10 +198,18 @@ module _ (L : Linked) (A : Activation L) where
 
   not-in : (m : Act ℕ) (t : Bool) (z d p q k : ℕ) → CondIn m z (B2.not t) d p q k
       → CondIn (λ ls w. bind (begin ls w) (λ _ ls w. bind (m ls w) (λ x. gives (apply T.not x)))) (suc z) t d p q k
-  not-in m t z d p q k I = record { run = λ ls w σ on hp c. sound-begin S ls w _ on (c .log-is) (λ f e.
-      sound-bind S {z2 = 0} 96 (omega arith) (omega arith) (omega arith) (I .run ls (spent f w) σ on hp (core-spent L A f c))
-      (λ x ls2 w2 τ Q. sound-end S (omega arith) (omega arith) (record {
-        on = Q .on; here = Q .here ∙ aim-not L A t x q k; cor = Q .cor; keep = Q .keep; locals = Q .locals; less = omega (arith, Q .less) }))) }
+  not-in m t z d p q k I = record {
+    run = λ ls w σ on hp c. sound-begin S ls w _ on (c .log-is) (λ f e.
+        sound-bind S {z2 = 0} 96 (omega arith) (omega arith) (omega arith) (I .run ls (spent f w) σ on hp (core-spent L A f c))
+        (λ x ls2 w2 τ Q. sound-end S (omega arith) (omega arith) (record {
+          on = Q .on;
+          here = Q .here ∙ aim-not L A t x q k;
+          cor = Q .cor;
+          keep = Q .keep;
+          locals = Q .locals;
+          less = omega (arith, Q .less);
+        })));
+  }
 
   -- the right side is a condition too
   right-cond : (mb : Act ℕ) (t : Bool) (zb d r q k f : ℕ) (ls₀ ls : List ℕ) (w : World) (σ τ : State) → CondIn mb zb t d r q k
@@ -197,9 +230,11 @@ module _ (L : Linked) (A : Activation L) where
   -- `a && b` jumps where it is false: where either is
   and-false : (ma mb : Act ℕ) (za zb d p r q n k : ℕ) → n ≡ q - r + k → r ≤ q → CondIn ma za false d p r n → CondIn mb zb false d r q k
       → CondIn (λ ls w. bind (begin ls w) (λ _ ls w. bind (ma ls w) (λ x. branch x mb (gives 0)))) (suc (za + zb)) false d p q k
-  and-false ma mb za zb d p r q n k hn hr I J = record { run = λ ls w σ on hp c. sound-begin S ls w _ on (c .log-is) (λ f e.
-      sound-bind S {z2 = zb} 96 (omega arith) (omega arith) (omega arith) (I .run ls (spent f w) σ on hp (core-spent L A f c))
-      (λ x ls2 w2 τ Q. go x ls ls2 w2 (w .fuel) f σ τ (omega arith) Q)) }
+  and-false ma mb za zb d p r q n k hn hr I J = record {
+    run = λ ls w σ on hp c. sound-begin S ls w _ on (c .log-is) (λ f e.
+        sound-bind S {z2 = zb} 96 (omega arith) (omega arith) (omega arith) (I .run ls (spent f w) σ on hp (core-spent L A f c))
+        (λ x ls2 w2 τ Q. go x ls ls2 w2 (w .fuel) f σ τ (omega arith) Q));
+  }
     where
       go : (x : ℕ) (ls ls2 : List ℕ) (w2 : World) (g f : ℕ) (σ τ : State) → f ≤ g → CondPost L A false σ d r n ls f x ls2 w2 τ
           → Sound S (branch x mb (gives 0) ls2 w2) (K * w2 .fuel + 96) (w2 .fuel) zb (CondPost L A false σ d q k ls g) τ
@@ -209,9 +244,11 @@ module _ (L : Linked) (A : Activation L) where
   -- it jumps where it is true: where the right side is, and the left side too
   and-true : (ma mb : Act ℕ) (za zb d p r q n k : ℕ) → n ≡ q - r → r ≤ q → CondIn ma za false d p r n → CondIn mb zb true d r q k
       → CondIn (λ ls w. bind (begin ls w) (λ _ ls w. bind (ma ls w) (λ x. branch x mb (gives 0)))) (suc (za + zb)) true d p q k
-  and-true ma mb za zb d p r q n k hn hr I J = record { run = λ ls w σ on hp c. sound-begin S ls w _ on (c .log-is) (λ f e.
-      sound-bind S {z2 = zb} 96 (omega arith) (omega arith) (omega arith) (I .run ls (spent f w) σ on hp (core-spent L A f c))
-      (λ x ls2 w2 τ Q. go x ls ls2 w2 (w .fuel) f σ τ (omega arith) Q)) }
+  and-true ma mb za zb d p r q n k hn hr I J = record {
+    run = λ ls w σ on hp c. sound-begin S ls w _ on (c .log-is) (λ f e.
+        sound-bind S {z2 = zb} 96 (omega arith) (omega arith) (omega arith) (I .run ls (spent f w) σ on hp (core-spent L A f c))
+        (λ x ls2 w2 τ Q. go x ls ls2 w2 (w .fuel) f σ τ (omega arith) Q));
+  }
     where
       go : (x : ℕ) (ls ls2 : List ℕ) (w2 : World) (g f : ℕ) (σ τ : State) → f ≤ g → CondPost L A false σ d r n ls f x ls2 w2 τ
           → Sound S (branch x mb (gives 0) ls2 w2) (K * w2 .fuel + 96) (w2 .fuel) zb (CondPost L A true σ d q k ls g) τ
@@ -221,9 +258,11 @@ module _ (L : Linked) (A : Activation L) where
   -- `a || b` jumps where it is true: where either is
   or-true : (ma mb : Act ℕ) (za zb d p r q n k : ℕ) → n ≡ q - r + k → r ≤ q → CondIn ma za true d p r n → CondIn mb zb true d r q k
       → CondIn (λ ls w. bind (begin ls w) (λ _ ls w. bind (ma ls w) (λ x. branch x (gives 1) mb))) (suc (za + zb)) true d p q k
-  or-true ma mb za zb d p r q n k hn hr I J = record { run = λ ls w σ on hp c. sound-begin S ls w _ on (c .log-is) (λ f e.
-      sound-bind S {z2 = zb} 96 (omega arith) (omega arith) (omega arith) (I .run ls (spent f w) σ on hp (core-spent L A f c))
-      (λ x ls2 w2 τ Q. go x ls ls2 w2 (w .fuel) f σ τ (omega arith) Q)) }
+  or-true ma mb za zb d p r q n k hn hr I J = record {
+    run = λ ls w σ on hp c. sound-begin S ls w _ on (c .log-is) (λ f e.
+        sound-bind S {z2 = zb} 96 (omega arith) (omega arith) (omega arith) (I .run ls (spent f w) σ on hp (core-spent L A f c))
+        (λ x ls2 w2 τ Q. go x ls ls2 w2 (w .fuel) f σ τ (omega arith) Q));
+  }
     where
       go : (x : ℕ) (ls ls2 : List ℕ) (w2 : World) (g f : ℕ) (σ τ : State) → f ≤ g → CondPost L A true σ d r n ls f x ls2 w2 τ
           → Sound S (branch x (gives 1) mb ls2 w2) (K * w2 .fuel + 96) (w2 .fuel) zb (CondPost L A true σ d q k ls g) τ
@@ -233,9 +272,11 @@ module _ (L : Linked) (A : Activation L) where
   -- it jumps where it is false: where the right side is, and the left side too
   or-false : (ma mb : Act ℕ) (za zb d p r q n k : ℕ) → n ≡ q - r → r ≤ q → CondIn ma za true d p r n → CondIn mb zb false d r q k
       → CondIn (λ ls w. bind (begin ls w) (λ _ ls w. bind (ma ls w) (λ x. branch x (gives 1) mb))) (suc (za + zb)) false d p q k
-  or-false ma mb za zb d p r q n k hn hr I J = record { run = λ ls w σ on hp c. sound-begin S ls w _ on (c .log-is) (λ f e.
-      sound-bind S {z2 = zb} 96 (omega arith) (omega arith) (omega arith) (I .run ls (spent f w) σ on hp (core-spent L A f c))
-      (λ x ls2 w2 τ Q. go x ls ls2 w2 (w .fuel) f σ τ (omega arith) Q)) }
+  or-false ma mb za zb d p r q n k hn hr I J = record {
+    run = λ ls w σ on hp c. sound-begin S ls w _ on (c .log-is) (λ f e.
+        sound-bind S {z2 = zb} 96 (omega arith) (omega arith) (omega arith) (I .run ls (spent f w) σ on hp (core-spent L A f c))
+        (λ x ls2 w2 τ Q. go x ls ls2 w2 (w .fuel) f σ τ (omega arith) Q));
+  }
     where
       go : (x : ℕ) (ls ls2 : List ℕ) (w2 : World) (g f : ℕ) (σ τ : State) → f ≤ g → CondPost L A true σ d r n ls f x ls2 w2 τ
           → Sound S (branch x (gives 1) mb ls2 w2) (K * w2 .fuel + 96) (w2 .fuel) zb (CondPost L A false σ d q k ls g) τ
@@ -254,9 +295,12 @@ module _ (L : Linked) (A : Activation L) where
 
   moves : (pl : Place) (v d p q : ℕ) (ρ : State) → Fit L A pl d → d < 431 → ρ .registers Fixed 1 ≡ B → ρ .status ≡ Going → ρ .pc ≡ p → valueAt pl B ρ ≡ v
       → At (S .code) p (move pl d) q → (τ : State) × Ran S 4 ρ τ × Same B d q ρ τ × (valueAt (temporary d) B τ ≡ v)
-  moves (temporary j) v d p q ρ hf hd hs on hp hv hc =
-      (ρ, ran-none S, record { on = on; here = hp ∙ hc; fixed = λ j. refl; arguments = λ j. refl; temporaries = λ j h. refl; memory = λ a h. refl; log = refl },
-      subst (λ (n : ℕ). valueAt (temporary n) B ρ ≡ v) (hf .0) hv)
+  moves (temporary j) v d p q ρ hf hd hs on hp hv hc = (
+    ρ,
+    ran-none S,
+    record { on = on; here = hp ∙ hc; fixed = λ j. refl; arguments = λ j. refl; temporaries = λ j h. refl; memory = λ a h. refl; log = refl },
+    subst (λ (n : ℕ). valueAt (temporary n) B ρ ≡ v) (hf .0) hv,
+  )
   moves (constant n) v d p q ρ hf hd hs on hp hv hc = copies (constant n) v d p q ρ hf hd hs on hp hv hc
   moves (local y) v d p q ρ hf hd hs on hp hv hc = copies (local y) v d p q ρ (there L A (local y) d hf) hd hs on hp hv hc
 
@@ -268,9 +312,9 @@ module _ (L : Linked) (A : Activation L) where
   right-value mb zb d r u q f pl ls₀ ls w σ τ hf hd J hc on hp c hk he hl =
       sound-then S {z2 = 0} (mb ls w) 4 (omega arith) (omega arith) (omega arith) (J .run ls w τ on hp c)
       (λ v ls3 w3 ρ Z.
-        let h = moves pl v d u q ρ hf hd (Z .cor .sp-is) (Z .on) (Z .here) (Z .is) hc in
-        sound-ran S 4 (omega arith) (h .1)
-        (sound-end S (omega arith) (omega arith) (finish L A (Z .cor) (h .2) (h .3) (λ j k. Z .keep j k ∙ hk j k) (Z .locals ∙ he) (omega (arith, Z .less)))))
+      let h = moves pl v d u q ρ hf hd (Z .cor .sp-is) (Z .on) (Z .here) (Z .is) hc in
+      sound-ran S 4 (omega arith) (h .1)
+      (sound-end S (omega arith) (omega arith) (finish L A (Z .cor) (h .2) (h .3) (λ j k. Z .keep j k ∙ hk j k) (Z .locals ∙ he) (omega (arith, Z .less)))))
 
   -- the value of the left side's default is kept
   left-value : (v n d q f : ℕ) (ls₀ ls : List ℕ) (w : World) (σ τ₀ τ : State) {zb : ℕ} → τ .status ≡ Going → τ .pc ≡ q → Cor L A ls w τ → valueAt (temporary d) B τ₀ ≡ v
@@ -278,16 +322,25 @@ module _ (L : Linked) (A : Activation L) where
       → Sound S (goes v ls w) (K * w .fuel + 96) (w .fuel) zb (ExprPost L A σ d q (temporary d) ls₀ f) τ
   left-value v n d q f ls₀ ls w σ τ₀ τ on hp c hv G hk he hl =
       sound-end S (omega arith) (omega arith) (record {
-        on = on; here = hp; cor = c; is = hk d (omega arith) ∙ hv; keep = λ j h. hk j (omega arith) ∙ value-same (temporary j) h G; locals = he; less = hl })
+        on = on;
+        here = hp;
+        cor = c;
+        is = hk d (omega arith) ∙ hv;
+        keep = λ j h. hk j (omega arith) ∙ value-same (temporary j) h G;
+        locals = he;
+        less = hl;
+      })
 
   and-in : (ma mb : Act ℕ) (za zb d p r s u q n : ℕ) (pl : Place) → Fit L A pl d → d < 431 → n ≡ q - s → s ≤ q
       → At (S .code) p (opi Add (target d) x0 0 ∷ keep d) r → CondIn ma za false (suc d) r s n → ExprIn mb zb d s u pl → At (S .code) u (move pl d) q
       → ExprIn (λ ls w. bind (begin ls w) (λ _ ls w. bind (ma ls w) (λ x. branch x mb (gives 0)))) (suc (za + zb)) d p q (temporary d)
-  and-in ma mb za zb d p r s u q n pl hf hd hn hs hk I J hc = record { run = λ ls w σ on hp c. sound-begin S ls w _ on (c .log-is) (λ f e.
-      let h = put-ok S d 0 p r _ σ (framed L A) hd (c .sp-is) hk on hp (ap (λ (v : ℕ). puts (target d) v σ) zero-is) in
-      sound-ran S 2 (omega arith) (h .1)
-      (sound-bind S {z2 = zb} 96 (omega arith) (omega arith) (omega arith) (I .run ls (spent f w) (h .0) (h .2 .on) (h .2 .here) (core-spent L A f (core-same L A c (h .2))))
-      (λ x ls2 w2 τ Q. go x ls ls2 w2 (w .fuel) f σ (h .0) τ (omega arith) (h .2) (h .3) Q))) }
+  and-in ma mb za zb d p r s u q n pl hf hd hn hs hk I J hc = record {
+    run = λ ls w σ on hp c. sound-begin S ls w _ on (c .log-is) (λ f e.
+        let h = put-ok S d 0 p r _ σ (framed L A) hd (c .sp-is) hk on hp (ap (λ (v : ℕ). puts (target d) v σ) zero-is) in
+        sound-ran S 2 (omega arith) (h .1)
+        (sound-bind S {z2 = zb} 96 (omega arith) (omega arith) (omega arith) (I .run ls (spent f w) (h .0) (h .2 .on) (h .2 .here) (core-spent L A f (core-same L A c (h .2))))
+        (λ x ls2 w2 τ Q. go x ls ls2 w2 (w .fuel) f σ (h .0) τ (omega arith) (h .2) (h .3) Q)));
+  }
     where
       go : (x : ℕ) (ls ls2 : List ℕ) (w2 : World) (g f : ℕ) (σ τ₀ τ : State) → f ≤ g → Same B d r σ τ₀ → valueAt (temporary d) B τ₀ ≡ 0 → CondPost L A false τ₀ (suc d) s n ls f x ls2 w2 τ
           → Sound S (branch x mb (gives 0) ls2 w2) (K * w2 .fuel + 96) (w2 .fuel) zb (ExprPost L A σ d q (temporary d) ls g) τ
@@ -299,11 +352,13 @@ module _ (L : Linked) (A : Activation L) where
   or-in : (ma mb : Act ℕ) (za zb d p r s u q n : ℕ) (pl : Place) → Fit L A pl d → d < 431 → n ≡ q - s → s ≤ q
       → At (S .code) p (opi Add (target d) x0 1 ∷ keep d) r → CondIn ma za true (suc d) r s n → ExprIn mb zb d s u pl → At (S .code) u (move pl d) q
       → ExprIn (λ ls w. bind (begin ls w) (λ _ ls w. bind (ma ls w) (λ x. branch x (gives 1) mb))) (suc (za + zb)) d p q (temporary d)
-  or-in ma mb za zb d p r s u q n pl hf hd hn hs hk I J hc = record { run = λ ls w σ on hp c. sound-begin S ls w _ on (c .log-is) (λ f e.
-      let h = put-ok S d 1 p r _ σ (framed L A) hd (c .sp-is) hk on hp (ap (λ (v : ℕ). puts (target d) v σ) one-is) in
-      sound-ran S 2 (omega arith) (h .1)
-      (sound-bind S {z2 = zb} 96 (omega arith) (omega arith) (omega arith) (I .run ls (spent f w) (h .0) (h .2 .on) (h .2 .here) (core-spent L A f (core-same L A c (h .2))))
-      (λ x ls2 w2 τ Q. go x ls ls2 w2 (w .fuel) f σ (h .0) τ (omega arith) (h .2) (h .3) Q))) }
+  or-in ma mb za zb d p r s u q n pl hf hd hn hs hk I J hc = record {
+    run = λ ls w σ on hp c. sound-begin S ls w _ on (c .log-is) (λ f e.
+        let h = put-ok S d 1 p r _ σ (framed L A) hd (c .sp-is) hk on hp (ap (λ (v : ℕ). puts (target d) v σ) one-is) in
+        sound-ran S 2 (omega arith) (h .1)
+        (sound-bind S {z2 = zb} 96 (omega arith) (omega arith) (omega arith) (I .run ls (spent f w) (h .0) (h .2 .on) (h .2 .here) (core-spent L A f (core-same L A c (h .2))))
+        (λ x ls2 w2 τ Q. go x ls ls2 w2 (w .fuel) f σ (h .0) τ (omega arith) (h .2) (h .3) Q)));
+  }
     where
       go : (x : ℕ) (ls ls2 : List ℕ) (w2 : World) (g f : ℕ) (σ τ₀ τ : State) → f ≤ g → Same B d r σ τ₀ → valueAt (temporary d) B τ₀ ≡ 1 → CondPost L A true τ₀ (suc d) s n ls f x ls2 w2 τ
           → Sound S (branch x (gives 1) mb ls2 w2) (K * w2 .fuel + 96) (w2 .fuel) zb (ExprPost L A σ d q (temporary d) ls g) τ
@@ -328,31 +383,42 @@ module _ (L : Linked) (A : Activation L) where
         → Sound S (m ls w) (K * w .fuel) (w .fuel) z (ArgsPost σ d q ps ls (w .fuel)) σ
 
   none-in : (d p : ℕ) → ArgsIn (gives []) 0 d p p []
-  none-in d p = record { run = λ ls w σ on hp c.
-      sound-end S (omega arith) (omega arith) (record { on = on; here = hp; cor = c; held = tt; keep = λ j h. refl; locals = refl; less = omega arith }) }
+  none-in d p = record {
+    run = λ ls w σ on hp c.
+        sound-end S (omega arith) (omega arith) (record { on = on; here = hp; cor = c; held = tt; keep = λ j h. refl; locals = refl; less = omega arith });
+  }
 
   more-in : (m : Act ℕ) (n : Act (List ℕ)) (z y d p r q : ℕ) (pl : Place) (ps : List Place) → Fit L A pl d → ExprIn m z d p r pl → ArgsIn n y (above pl d) r q ps
       → ArgsIn (λ ls w. bind (m ls w) (λ v ls w. bind (n ls w) (λ vs. gives (v ∷ vs)))) (z + y) d p q (pl ∷ ps)
-  more-in m n z y d p r q pl ps hf I J = record { run = λ ls w σ on hp c.
-      sound-bind′ S {z2 = y} 0 (omega arith) (λ _ _ _ _ Q. omega (arith, Q .less)) (omega arith) (omega arith) (I .run ls w σ on hp c)
-      (λ v ls2 w2 τ Q. sound-bind S {z2 = 0} 0 (omega arith) (omega arith) (omega arith) (J .run ls2 w2 τ (Q .on) (Q .here) (Q .cor))
-      (λ vs ls3 w3 ρ Z. sound-end S (omega arith) (omega arith) (record {
-        on = Z .on; here = Z .here; cor = Z .cor;
-        held = (there L A pl d hf, still L A pl d v ls2 ls3 w2 w3 τ ρ hf (Q .is) (Q .cor) (Z .cor) (Z .locals) (Z .keep), Z .held);
-        keep = λ j h. Z .keep j (let k : d ≤ above pl d = above-le L A pl d in omega (arith, k)) ∙ Q .keep j h; locals = Z .locals ∙ Q .locals; less = omega (arith, Z .less, Q .less) }))) }
+  more-in m n z y d p r q pl ps hf I J = record {
+    run = λ ls w σ on hp c.
+        sound-bind′ S {z2 = y} 0 (omega arith) (λ _ _ _ _ Q. omega (arith, Q .less)) (omega arith) (omega arith) (I .run ls w σ on hp c)
+        (λ v ls2 w2 τ Q. sound-bind S {z2 = 0} 0 (omega arith) (omega arith) (omega arith) (J .run ls2 w2 τ (Q .on) (Q .here) (Q .cor))
+        (λ vs ls3 w3 ρ Z. sound-end S (omega arith) (omega arith) (record {
+          on = Z .on;
+          here = Z .here;
+          cor = Z .cor;
+          held = (there L A pl d hf, still L A pl d v ls2 ls3 w2 w3 τ ρ hf (Q .is) (Q .cor) (Z .cor) (Z .locals) (Z .keep), Z .held);
+          keep = λ j h. Z .keep j (let k : d ≤ above pl d = above-le L A pl d in omega (arith, k)) ∙ Q .keep j h;
+          locals = Z .locals ∙ Q .locals;
+          less = omega (arith, Z .less, Q .less);
+        })));
+  }
 
   -- a call, and its result
   call-in : (m : Act (List ℕ)) (f z d p r s q : ℕ) (ps : List Place) → d < 431 → f < length (L .functions) → length ps ≡ getD (L .functions) f nothing .parameters → length ps ≤ 8
       → ArgsIn m z d p r ps → At (S .code) r (calling (L .entry f) ps d) s → At (S .code) s (mv (target d) answer ∷ keep d) q
       → ExprIn (λ ls w. bind (begin ls w) (λ _ ls w. bind (m ls w) (λ vs. callAt (S .room) (L .functions) (A .left) f vs))) (suc z) d p q (temporary d)
-  call-in m f z d p r s q ps hd hf har few I hc hm = record { run = λ ls w σ on hp c. sound-begin S ls w _ on (c .log-is) (λ g e.
-      sound-bind S {z2 = 0} 128 (omega arith) (omega arith) (omega arith) (I .run ls (spent g w) σ on hp (core-spent L A g c))
-      (λ vs ls2 w2 τ Q. sound-then S {z2 = 0} (callAt (S .room) (L .functions) (A .left) f vs ls2 w2) 2 (omega arith) (omega arith) (omega arith)
+  call-in m f z d p r s q ps hd hf har few I hc hm = record {
+    run = λ ls w σ on hp c. sound-begin S ls w _ on (c .log-is) (λ g e.
+        sound-bind S {z2 = 0} 128 (omega arith) (omega arith) (omega arith) (I .run ls (spent g w) σ on hp (core-spent L A g c))
+        (λ vs ls2 w2 τ Q. sound-then S {z2 = 0} (callAt (S .room) (L .functions) (A .left) f vs ls2 w2) 2 (omega arith) (omega arith) (omega arith)
         (calls L A f vs ps d r s ls2 w2 τ (omega arith) (Q .on) (Q .here) (Q .cor) (Q .held) hf har few hc)
         (λ v ls3 w3 ρ Z.
-          let h = put-ok S d v s q _ ρ (framed L A) hd (Z .cor .sp-is) hm (Z .on) (Z .here) (ap (λ (n : ℕ). puts (target d) n ρ) (Z .is)) in
-          sound-ran S 2 (omega arith) (h .1)
-          (sound-end S (omega arith) (omega arith) (finish L A (Z .cor) (h .2) (h .3) (λ j k. Z .keep j k ∙ Q .keep j k) (Z .locals ∙ Q .locals) (omega (arith, Z .less, Q .less))))))) }
+        let h = put-ok S d v s q _ ρ (framed L A) hd (Z .cor .sp-is) hm (Z .on) (Z .here) (ap (λ (n : ℕ). puts (target d) n ρ) (Z .is)) in
+        sound-ran S 2 (omega arith) (h .1)
+        (sound-end S (omega arith) (omega arith) (finish L A (Z .cor) (h .2) (h .3) (λ j k. Z .keep j k ∙ Q .keep j k) (Z .locals ∙ Q .locals) (omega (arith, Z .less, Q .less)))))));
+  }
 
   -- The induction.
 

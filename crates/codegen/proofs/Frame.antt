@@ -73,21 +73,39 @@ pub record Same (B d q : ℕ) (σ τ : State) : Type 0 where
 
 pub only-same : {B d w q : ℕ} {σ τ : State} → Only Scratch w q σ τ → Same B d q σ τ
 only-same o = record {
-  on = o .on; here = o .here; fixed = λ j. o .other Fixed j refl; arguments = λ j. o .other Argument j refl;
-  temporaries = λ j h. o .other Temporary j refl; memory = λ a h. o .memory a; log = o .log }
+  on = o .on;
+  here = o .here;
+  fixed = λ j. o .other Fixed j refl;
+  arguments = λ j. o .other Argument j refl;
+  temporaries = λ j h. o .other Temporary j refl;
+  memory = λ a h. o .memory a;
+  log = o .log;
+}
 
 pub same-trans : {B d e p q : ℕ} {σ τ ρ : State} → d ≤ e → Same B d p σ τ → Same B e q τ ρ → Same B d q σ ρ
 same-trans h s t = record {
-  on = t .on; here = t .here; fixed = λ j. t .fixed j ∙ s .fixed j; arguments = λ j. t .arguments j ∙ s .arguments j;
-  temporaries = λ j k. t .temporaries j (omega arith) ∙ s .temporaries j k; memory = λ a k. t .memory a (omega arith) ∙ s .memory a k; log = t .log ∙ s .log }
+  on = t .on;
+  here = t .here;
+  fixed = λ j. t .fixed j ∙ s .fixed j;
+  arguments = λ j. t .arguments j ∙ s .arguments j;
+  temporaries = λ j k. t .temporaries j (omega arith) ∙ s .temporaries j k;
+  memory = λ a k. t .memory a (omega arith) ∙ s .memory a k;
+  log = t .log ∙ s .log;
+}
 
 pub same-join : {B d p q : ℕ} {σ τ ρ : State} → Same B d p σ τ → Same B d q τ ρ → Same B d q σ ρ
 same-join s t = same-trans (omega arith) s t
 
 pub same-less : {B d e q : ℕ} {σ τ : State} → d ≤ e → Same B e q σ τ → Same B d q σ τ
 same-less h s = record {
-  on = s .on; here = s .here; fixed = s .fixed; arguments = s .arguments;
-  temporaries = λ j k. s .temporaries j (omega arith); memory = λ a k. s .memory a (omega arith); log = s .log }
+  on = s .on;
+  here = s .here;
+  fixed = s .fixed;
+  arguments = s .arguments;
+  temporaries = λ j k. s .temporaries j (omega arith);
+  memory = λ a k. s .memory a (omega arith);
+  log = s .log;
+}
 
 -- The value at a place.
 
@@ -128,7 +146,7 @@ module _ (room : ℕ) where
       ap (λ (b : ℕ). pick (reaches Word (addW b n)) (puts r (σ .memory (addW b n)) σ) (quit (Fault 3) σ)) hs
       ∙ ap (λ (a : ℕ). pick (reaches Word a) (puts r (σ .memory a) σ) (quit (Fault 3) σ)) (add-is B n (omega (arith, F .top)))
       ∙ ap (λ (t : Bool). pick t (puts r (σ .memory (B + n)) σ) (quit (Fault 3) σ))
-        (in-data (B + n) (omega (arith, F .low)) (omega (arith, F .top)) (omega (arith, F .even)))
+      (in-data (B + n) (omega (arith, F .low)) (omega (arith, F .top)) (omega (arith, F .even)))
 
   pub sw-step : {B : ℕ} (r : Reg) (n : ℕ) (σ : State) → Framed B → n + 4 ≤ 2400 → n % 4 ≡ 0 → σ .registers Fixed 1 ≡ B
       → exec1 room (sw r sp n) σ ≡ stores (B + n) (value σ r) σ
@@ -136,4 +154,4 @@ module _ (room : ℕ) where
       ap (λ (b : ℕ). pick (reaches Word (addW b n)) (stores (addW b n) (value σ r) σ) (quit (Fault 3) σ)) hs
       ∙ ap (λ (a : ℕ). pick (reaches Word a) (stores a (value σ r) σ) (quit (Fault 3) σ)) (add-is B n (omega (arith, F .top)))
       ∙ ap (λ (t : Bool). pick t (stores (B + n) (value σ r) σ) (quit (Fault 3) σ))
-        (in-data (B + n) (omega (arith, F .low)) (omega (arith, F .top)) (omega (arith, F .even)))
+      (in-data (B + n) (omega (arith, F .low)) (omega (arith, F .top)) (omega (arith, F .even)))

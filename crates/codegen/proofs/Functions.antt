@@ -74,17 +74,22 @@ module _ (L : Linked) where
       (σ, ran-none S, record { on = on; here = hp ∙ c; registers = refl; log = refl; values = λ i k. absurd (omega arith); other = λ a k. refl })
   cleared B first (suc n) p q σ F hf hs c on hp =
       let t = at-split (S .code) p (clears first n) _ q c in
-      let z = cleared B first n p (t .0) σ F (omega arith) hs (t .1) on hp in
-      (stores (B + 4 * localWord (first + n)) 0 (z .0),
-      ran-most S (omega arith) (ran-trans S (z .1) (ran-step S (z .2 .on) (z .2 .here) (t .2 .0)
-        (sw-step (S .room) x0 (4 * localWord (first + n)) (z .0) F (omega arith) (omega arith) (ap (λ g. g Fixed 1) (z .2 .registers) ∙ hs)) (ran-none S {n = 0}))),
-      more (z .0) (t .0) (z .2) (t .2 .1))
+      let z = cleared B first n p (t .0) σ F (omega arith) hs (t .1) on hp in (
+        stores (B + 4 * localWord (first + n)) 0 (z .0),
+        ran-most S (omega arith) (ran-trans S (z .1) (ran-step S (z .2 .on) (z .2 .here) (t .2 .0)
+            (sw-step (S .room) x0 (4 * localWord (first + n)) (z .0) F (omega arith) (omega arith) (ap (λ g. g Fixed 1) (z .2 .registers) ∙ hs)) (ran-none S {n = 0}))),
+        more (z .0) (t .0) (z .2) (t .2 .1),
+      )
     where
       more : (τ : State) (r : ℕ) → Cleared B first n r σ τ → suc r ≡ q → Cleared B first (suc n) q σ (stores (B + 4 * localWord (first + n)) 0 τ)
       more τ r z e = record {
-        on = refl; here = ap suc (z .here) ∙ e; registers = z .registers; log = z .log;
+        on = refl;
+        here = ap suc (z .here) ∙ e;
+        registers = z .registers;
+        log = z .log;
         values = λ i k. go i k (decLt i n);
-        other = λ a k. updated-other (τ .memory) (B + 4 * localWord (first + n)) 0 a (λ e. k n (omega arith) e) ∙ z .other a (λ i h e. k i (omega arith) e) }
+        other = λ a k. updated-other (τ .memory) (B + 4 * localWord (first + n)) 0 a (λ e. k n (omega arith) e) ∙ z .other a (λ i h e. k i (omega arith) e);
+      }
         where
           go : (i : ℕ) → i < suc n → Dec (i < n) → updated (τ .memory) (B + 4 * localWord (first + n)) 0 (B + 4 * localWord (first + i)) ≡ 0
           go i k (yes h) = updated-other (τ .memory) (B + 4 * localWord (first + n)) 0 (B + 4 * localWord (first + i)) (λ e. omega arith) ∙ z .values i h
@@ -97,7 +102,7 @@ module _ (L : Linked) where
     -- a call that may not be made
     full : (f : ℕ) (vs ls : List ℕ) (w : World) (R : ℕ) (σ : State) → Entered L 0 f vs w R σ
         → Sound S (callAt (S .room) (L .functions) 0 f vs ls w) (K * w .fuel + 80) (w .fuel) C
-          (λ v ls′ w′ τ. Back (S .elements) (σ .registers Fixed 1) R (σ .memory) (w .fuel) v w′ τ × (ls′ ≡ ls)) σ
+        (λ v ls′ w′ τ. Back (S .elements) (σ .registers Fixed 1) R (σ .memory) (w .fuel) v w′ τ × (ls′ ≡ ls)) σ
     unfolding callAt function functionBy
     full f vs ls w R σ E =
         let hc = placed f (E .known) .1 in
@@ -110,7 +115,7 @@ module _ (L : Linked) where
         → A .N ≡ getD (L .functions) f nothing .parameters + getD (L .functions) f nothing .lets → A .B ≡ σ .registers Fixed 1 → A .m₀ ≡ σ .memory
         → Entered L (suc (A .left)) f vs w (A .R) σ
         → Sound S (callAt (S .room) (L .functions) (suc (A .left)) f vs ls w) (K * w .fuel + 80) (w .fuel) C
-          (λ v ls′ w′ τ. Back (S .elements) (A .B) (A .R) (A .m₀) (w .fuel) v w′ τ × (ls′ ≡ ls)) σ
+        (λ v ls′ w′ τ. Back (S .elements) (A .B) (A .R) (A .m₀) (w .fuel) v w′ τ × (ls′ ≡ ls)) σ
     unfolding callAt function functionBy
     whole f vs ls w A σ hn hN hB hm E =
         let g : Function = getD (L .functions) f nothing in
@@ -131,31 +136,34 @@ module _ (L : Linked) where
         (sym (back-is (S .room) ls (exs L A (g .body) (vs ++ replicate (g .lets) 0) w)))
         (sound-ran S 66 (omega arith)
         (ran-most S (omega arith) (ran-step S {τ = σ1} (E .on) (E .here) (hc .0)
-          (enough σ false (ne-eqb _ _ ne) ∙ ap (λ (a : ℕ). goto a σ) (let y : σ .pc + 2 ≡ suc (suc p) = omega (arith, E .here) in y))
-          (ran-step S {τ = σ2} refl refl (hc .1 .1 .0) (sw-step (S .room) ra 0 σ1 (framed L A) (omega arith) refl (sym hB)) (z .1))))
+        (enough σ false (ne-eqb _ _ ne) ∙ ap (λ (a : ℕ). goto a σ) (let y : σ .pc + 2 ≡ suc (suc p) = omega (arith, E .here) in y))
+        (ran-step S {τ = σ2} refl refl (hc .1 .1 .0) (sw-step (S .room) ra 0 σ1 (framed L A) (omega arith) refl (sym hB)) (z .1))))
         (sound-bind S {z2 = 0} 14 (omega arith) (omega arith) (let k = P .short in omega (arith, k))
-          (blk L A (λ h k. proper h k .few) (g .body) (t .0) (u .0) (subst (λ (n : ℕ). RunsAll (L .functions) (S .elements) n (g .body)) (sym hN) (P .body)) (P .short)
-            (subst (λ (b : Bool). At (S .code) (t .0) (block (L .entry) b (g .body)) (u .0)) (sym hn) (u .1))
-            .run (vs ++ replicate (g .lets) 0) w (z .0) (z .2 .on) (z .2 .here) (core0 (z .0) (t .0) (z .2)))
-          (λ fl ls2 w2 τ Q. ends fl ls2 w2 τ (u .0) q (u .2) Q)))
+        (blk L A (λ h k. proper h k .few) (g .body) (t .0) (u .0) (subst (λ (n : ℕ). RunsAll (L .functions) (S .elements) n (g .body)) (sym hN) (P .body)) (P .short)
+        (subst (λ (b : Bool). At (S .code) (t .0) (block (L .entry) b (g .body)) (u .0)) (sym hn) (u .1))
+        .run (vs ++ replicate (g .lets) 0) w (z .0) (z .2 .on) (z .2 .here) (core0 (z .0) (t .0) (z .2)))
+        (λ fl ls2 w2 τ Q. ends fl ls2 w2 τ (u .0) q (u .2) Q)))
       where
         core0 : (τ : State) (r : ℕ) → Cleared (A .B) (getD (L .functions) f nothing .parameters) (getD (L .functions) f nothing .lets) r
-              (stores (A .B + 0) (σ .registers Fixed 0) (goto (suc (suc (L .entry f))) σ)) τ
+            (stores (A .B + 0) (σ .registers Fixed 0) (goto (suc (suc (L .entry f))) σ)) τ
             → Cor L A (vs ++ replicate (getD (L .functions) f nothing .lets) 0) w τ
         core0 τ r z =
             let n : ℕ = getD (L .functions) f nothing .parameters in
             let k : ℕ = getD (L .functions) f nothing .lets in
             let hB2 = high L A in
             let old : (a : ℕ) → a < A .B → τ .memory a ≡ σ .memory a =
-                  λ a h. z .other a (λ i k e. omega arith) ∙ updated-other (σ .memory) (A .B + 0) (σ .registers Fixed 0) a (λ e. omega arith) in
+            λ a h. z .other a (λ i k e. omega arith) ∙ updated-other (σ .memory) (A .B + 0) (σ .registers Fixed 0) a (λ e. omega arith) in
             record {
-              sp-is = ap (λ (x : Registers). x Fixed 1) (z .registers) ∙ sym hB; limit-is = ap (λ (x : Registers). x Fixed 2) (z .registers) ∙ E .limit-is;
-              request-is = ap (λ (x : Registers). x Argument 7) (z .registers) ∙ E .request-is; log-is = z .log ∙ E .log-is;
+              sp-is = ap (λ (x : Registers). x Fixed 1) (z .registers) ∙ sym hB;
+              limit-is = ap (λ (x : Registers). x Fixed 2) (z .registers) ∙ E .limit-is;
+              request-is = ap (λ (x : Registers). x Argument 7) (z .registers) ∙ E .request-is;
+              log-is = z .log ∙ E .log-is;
               arrays = arrays-same L A (λ a h. old a (omega arith)) (E .arrays);
               many = length-append vs (replicate k 0) ∙ (let a = length-replicate {A = ℕ} k 0 in let b = E .arity in let y : length vs + length (replicate k 0) ≡ A .N = omega (arith, a, b, hN) in y);
               locals = λ y h. each y h (decLt y n);
               ra-is = z .other (A .B + 0) (λ i k e. omega arith) ∙ updated-same (σ .memory) (A .B + 0) (σ .registers Fixed 0) ∙ E .ra-is;
-              below = λ a h1 h2. old a h2 ∙ ap (λ (m : ℕ → ℕ). m a) (sym hm) }
+              below = λ a h1 h2. old a h2 ∙ ap (λ (m : ℕ → ℕ). m a) (sym hm);
+            }
           where
             each : (y : ℕ) → y < A .N → Dec (y < getD (L .functions) f nothing .parameters)
                 → τ .memory (A .B + 4 * localWord y) ≡ getD (vs ++ replicate (getD (L .functions) f nothing .lets) 0) y 0
@@ -170,6 +178,7 @@ module _ (L : Linked) where
                 ap (λ (i : ℕ). τ .memory (A .B + 4 * localWord i)) e1 ∙ z .values (y - n) (omega (arith, hN))
                 ∙ sym (ap (λ (i : ℕ). getD (vs ++ replicate (getD (L .functions) f nothing .lets) 0) i 0) e2 ∙ getD-right vs (replicate (getD (L .functions) f nothing .lets) 0) (y - n)
                 ∙ getD-zeros (getD (L .functions) f nothing .lets) (y - n))
+
         ends : {z : ℕ} (fl : Flow) (ls2 : List ℕ) (w2 : World) (τ : State) (r q : ℕ) → At (S .code) r (opi Add answer x0 0 ∷ leaving) q → StmtPost L A r (w .fuel) fl ls2 w2 τ
             → Sound S (goes (result (S .room) fl) ls w2) (K * w2 .fuel + 14) (w2 .fuel) z (λ v ls′ w′ τ′. Back (S .elements) (A .B) (A .R) (A .m₀) (w .fuel) v w′ τ′ × (ls′ ≡ ls)) τ
         ends next ls2 w2 τ r q hc Z =
@@ -181,9 +190,20 @@ module _ (L : Linked) where
 
     pub called : (left : ℕ) → left ≤ 64 → CallIn L left
     called zero h = record { run = full }
-    called (suc left) h = record { run = λ f vs ls w R σ E.
-        let g : Function = getD (L .functions) f nothing in
-        let P = proper f (E .known) in
-        whole f vs ls w (record {
-          near = nearIn g; N = g .parameters + g .lets; B = σ .registers Fixed 1; R = R; left = left; m₀ = σ .memory; few = P .locals; room = E .room;
-          most = omega arith; under = called left (omega arith) }) σ refl refl refl refl E }
+    called (suc left) h = record {
+      run = λ f vs ls w R σ E.
+          let g : Function = getD (L .functions) f nothing in
+          let P = proper f (E .known) in
+          whole f vs ls w (record {
+            near = nearIn g;
+            N = g .parameters + g .lets;
+            B = σ .registers Fixed 1;
+            R = R;
+            left = left;
+            m₀ = σ .memory;
+            few = P .locals;
+            room = E .room;
+            most = omega arith;
+            under = called left (omega arith);
+          }) σ refl refl refl refl E;
+    }

@@ -56,6 +56,7 @@ module _ (near : Bool) (e e′ : ℕ → ℕ) where
 
   mutual
     unfolding code codes condition
+
     pub code-len : (x : Expr) (d : ℕ) → Len (code e near x d) (code e′ near x d)
     code-len (C.number n) d = same []
     code-len (C.local x) d = same []
@@ -103,6 +104,7 @@ module _ (near : Bool) (e e′ : ℕ → ℕ) where
 
   mutual
     unfolding statement block
+
     pub statement-len : (s : Stmt) → Len (statement e near s) (statement e′ near s)
     statement-len (C.put x v) = joins (code-len v 0) (same (fetch (placeOf v 0) 0 ++ (sw (source (placeOf v 0) 0) sp (4 * localWord x) ∷ [])))
     statement-len (C.store a i v) =

@@ -53,7 +53,11 @@ module _ (p : Program) where
   -- the program's code, for a log with this room
   abbrev pub linked : (room : ℕ) → Owed p → Linked
   linked room O = record {
-    setting = record { room = room; code = code; elements = p .elements }; entry = entryOf p; functions = p .functions; few = O .few-elements;
+    setting = record { room = room; code = code; elements = p .elements };
+    entry = entryOf p;
+    functions = p .functions;
+    few = O .few-elements;
     trap-1 = (rest .0, (rest .1 .0, (rest .1 .1 .0, refl)));
     trap-2 = (rest .1 .1 .1 .0, (rest .1 .1 .1 .1 .0, (rest .1 .1 .1 .1 .1 .0, refl)));
-    trap-3 = (rest .1 .1 .1 .1 .1 .1 .0, (rest .1 .1 .1 .1 .1 .1 .1 .0, (rest .1 .1 .1 .1 .1 .1 .1 .1 .0, refl))) }
+    trap-3 = (rest .1 .1 .1 .1 .1 .1 .0, (rest .1 .1 .1 .1 .1 .1 .1 .0, (rest .1 .1 .1 .1 .1 .1 .1 .1 .0, refl)));
+  }

@@ -144,13 +144,19 @@ module _ (S : Setting) where
   pub ran-step : {n p : ℕ} {i : Instruction} {σ τ ρ : State} → σ .status ≡ Going → σ .pc ≡ p → getD (S .code) p bad ≡ i
       → exec1 (S .room) i σ ≡ τ → Ran n τ ρ → Ran (suc n) σ ρ
   ran-step {σ = σ} {τ} {ρ} on hp here e r =
-      record { c = 1 + r .c; most = omega (arith, r .most);
-        eq = run-add (S .room) (S .code) 1 (r .c) σ ∙ ap (λ (w : State). run (S .room) (S .code) (r .c) w) (step-at (S .room) (S .code) σ on hp here ∙ e) ∙ r .eq }
+      record {
+        c = 1 + r .c;
+        most = omega (arith, r .most);
+        eq = run-add (S .room) (S .code) 1 (r .c) σ ∙ ap (λ (w : State). run (S .room) (S .code) (r .c) w) (step-at (S .room) (S .code) σ on hp here ∙ e) ∙ r .eq;
+      }
 
   pub ran-trans : {m n : ℕ} {σ τ ρ : State} → Ran m σ τ → Ran n τ ρ → Ran (m + n) σ ρ
   ran-trans {σ = σ} {τ} {ρ} r q =
-      record { c = r .c + q .c; most = omega (arith, r .most, q .most);
-        eq = run-add (S .room) (S .code) (r .c) (q .c) σ ∙ ap (λ (w : State). run (S .room) (S .code) (q .c) w) (r .eq) ∙ q .eq }
+      record {
+        c = r .c + q .c;
+        most = omega (arith, r .most, q .most);
+        eq = run-add (S .room) (S .code) (r .c) (q .c) σ ∙ ap (λ (w : State). run (S .room) (S .code) (q .c) w) (r .eq) ∙ q .eq;
+      }
 
   pub ran-most : {m n : ℕ} {σ τ : State} → m ≤ n → Ran m σ τ → Ran n σ τ
   ran-most h r = record { c = r .c; most = omega (arith, r .most); eq = r .eq }

@@ -45,15 +45,20 @@ module _ (S : Setting) where
   constant-ok b m n p q σ hn c on hp = go (short n) c
     where
       go : (t : Bool) → At (S .code) p (constantBy t (reg b m) n) q → (τ : State) × Ran S 2 σ τ × Only b m q σ τ × (τ .registers b m ≡ n)
-      go true c =
-          (puts (reg b m) (aluOf Add 0 n) σ, ran-step S on hp (c .0) refl (ran-none S), only-puts b m _ q σ (ap suc hp ∙ c .1),
-          put-same b m (aluOf Add 0 n) σ ∙ add-zero-is n hn)
+      go true c = (
+        puts (reg b m) (aluOf Add 0 n) σ,
+        ran-step S on hp (c .0) refl (ran-none S),
+        only-puts b m _ q σ (ap suc hp ∙ c .1),
+        put-same b m (aluOf Add 0 n) σ ∙ add-zero-is n hn,
+      )
       go false c =
           let τ : State = puts (reg b m) (upperOf n) σ in
-          let v : ℕ = aluOf Add (τ .registers b m) (lowerOf n) in
-          (puts (reg b m) v τ, ran-step S {τ = τ} on hp (c .0) refl (ran-step S refl (ap suc hp) (c .1 .0) refl (ran-none S)),
-          only-trans (only-puts b m (upperOf n) (suc (σ .pc)) σ refl) (only-puts b m v q τ (ap (λ (k : ℕ). suc (suc k)) hp ∙ c .1 .1)),
-          put-same b m v τ ∙ ap (λ (k : ℕ). aluOf Add k (lowerOf n)) (put-same b m (upperOf n) σ) ∙ add-parts n hn)
+          let v : ℕ = aluOf Add (τ .registers b m) (lowerOf n) in (
+            puts (reg b m) v τ,
+            ran-step S {τ = τ} on hp (c .0) refl (ran-step S refl (ap suc hp) (c .1 .0) refl (ran-none S)),
+            only-trans (only-puts b m (upperOf n) (suc (σ .pc)) σ refl) (only-puts b m v q τ (ap (λ (k : ℕ). suc (suc k)) hp ∙ c .1 .1)),
+            put-same b m v τ ∙ ap (λ (k : ℕ). aluOf Add k (lowerOf n)) (put-same b m (upperOf n) σ) ∙ add-parts n hn,
+          )
 
   -- an operand is fetched
   pub fetch-ok : {B : ℕ} (pl : Place) (w p q : ℕ) (σ : State) → Framed B → There pl → σ .registers Fixed 1 ≡ B → At (S .code) p (fetch pl w) q
@@ -61,19 +66,23 @@ module _ (S : Setting) where
       → (τ : State) × Ran S 2 σ τ × Only Scratch w q σ τ × (value τ (source pl w) ≡ valueAt pl B σ)
   fetch-ok (constant zero) w p q σ F th hs c on hp = (σ, ran-none S, only-none on (hp ∙ c), refl)
   fetch-ok (constant (suc n)) w p q σ F th hs c on hp = constant-ok Scratch w (suc n) p q σ th c on hp
-  fetch-ok {B} (local y) w p q σ F th hs c on hp =
-      (puts (scratch w) (σ .memory (B + 4 * localWord y)) σ,
-      ran-step S on hp (c .0) (lw-step (S .room) (scratch w) (4 * localWord y) σ F (omega arith) (omega arith) hs) (ran-none S),
-      only-puts Scratch w _ q σ (ap suc hp ∙ c .1), put-same Scratch w _ σ)
+  fetch-ok {B} (local y) w p q σ F th hs c on hp = (
+    puts (scratch w) (σ .memory (B + 4 * localWord y)) σ,
+    ran-step S on hp (c .0) (lw-step (S .room) (scratch w) (4 * localWord y) σ F (omega arith) (omega arith) hs) (ran-none S),
+    only-puts Scratch w _ q σ (ap suc hp ∙ c .1),
+    put-same Scratch w _ σ,
+  )
   fetch-ok {B} (temporary d) w p q σ F th hs c on hp = go (inRegister d) c
     where
       go : (t : Bool) → At (S .code) p (pick t [] (lw (scratch w) sp (4 * temporaryWord d) ∷ [])) q
           → (τ : State) × Ran S 2 σ τ × Only Scratch w q σ τ × (value τ (pick t (reg Temporary d) (scratch w)) ≡ valueBy t d B σ)
       go true c = (σ, ran-none S, only-none on (hp ∙ c), refl)
-      go false c =
-          (puts (scratch w) (σ .memory (B + 4 * temporaryWord d)) σ,
-          ran-step S on hp (c .0) (lw-step (S .room) (scratch w) (4 * temporaryWord d) σ F (omega arith) (omega arith) hs) (ran-none S),
-          only-puts Scratch w _ q σ (ap suc hp ∙ c .1), put-same Scratch w _ σ)
+      go false c = (
+        puts (scratch w) (σ .memory (B + 4 * temporaryWord d)) σ,
+        ran-step S on hp (c .0) (lw-step (S .room) (scratch w) (4 * temporaryWord d) σ F (omega arith) (omega arith) hs) (ran-none S),
+        only-puts Scratch w _ q σ (ap suc hp ∙ c .1),
+        put-same Scratch w _ σ,
+      )
 
   -- what was fetched to scratch register 0 stays while another is written
   pub source-only : {q : ℕ} {σ τ : State} (pl : Place) → Only Scratch 1 q σ τ → value τ (source pl 0) ≡ value σ (source pl 0)
@@ -91,20 +100,24 @@ module _ (S : Setting) where
       → σ .status ≡ Going → σ .pc ≡ p
       → (τ : State) × Ran S 2 σ τ × Only Argument 0 q σ τ × (τ .registers Argument 0 ≡ valueAt pl B σ)
   bring-ok (constant n) p q σ F th hs c on hp = constant-ok Argument 0 n p q σ th c on hp
-  bring-ok {B} (local y) p q σ F th hs c on hp =
-      (puts answer (σ .memory (B + 4 * localWord y)) σ,
-      ran-step S on hp (c .0) (lw-step (S .room) answer (4 * localWord y) σ F (omega arith) (omega arith) hs) (ran-none S),
-      only-puts Argument 0 _ q σ (ap suc hp ∙ c .1), put-same Argument 0 _ σ)
+  bring-ok {B} (local y) p q σ F th hs c on hp = (
+    puts answer (σ .memory (B + 4 * localWord y)) σ,
+    ran-step S on hp (c .0) (lw-step (S .room) answer (4 * localWord y) σ F (omega arith) (omega arith) hs) (ran-none S),
+    only-puts Argument 0 _ q σ (ap suc hp ∙ c .1),
+    put-same Argument 0 _ σ,
+  )
   bring-ok {B} (temporary d) p q σ F th hs c on hp = go (inRegister d) c
     where
       go : (t : Bool) → At (S .code) p (pick t (mv answer (reg Temporary d) ∷ []) (lw answer sp (4 * temporaryWord d) ∷ [])) q
           → (τ : State) × Ran S 2 σ τ × Only Argument 0 q σ τ × (τ .registers Argument 0 ≡ valueBy t d B σ)
       go true c =
           (puts answer (σ .registers Temporary d) σ, ran-step S on hp (c .0) refl (ran-none S), only-puts Argument 0 _ q σ (ap suc hp ∙ c .1), put-same Argument 0 _ σ)
-      go false c =
-          (puts answer (σ .memory (B + 4 * temporaryWord d)) σ,
-          ran-step S on hp (c .0) (lw-step (S .room) answer (4 * temporaryWord d) σ F (omega arith) (omega arith) hs) (ran-none S),
-          only-puts Argument 0 _ q σ (ap suc hp ∙ c .1), put-same Argument 0 _ σ)
+      go false c = (
+        puts answer (σ .memory (B + 4 * temporaryWord d)) σ,
+        ran-step S on hp (c .0) (lw-step (S .room) answer (4 * temporaryWord d) σ F (omega arith) (omega arith) hs) (ran-none S),
+        only-puts Argument 0 _ q σ (ap suc hp ∙ c .1),
+        put-same Argument 0 _ σ,
+      )
 
   -- the register of temporary d is written
   pub same-target : (B d v q : ℕ) (σ : State) → suc (σ .pc) ≡ q → Same B d q σ (puts (target d) v σ)
@@ -112,8 +125,14 @@ module _ (S : Setting) where
     where
       go : (t : Bool) → Same B d q σ (puts (pick t (reg Temporary d) (scratch 0)) v σ)
       go true = record {
-        on = refl; here = h; fixed = λ j. refl; arguments = λ j. refl;
-        temporaries = λ j k. only-puts Temporary d v q σ h .other Temporary j (apart Temporary d j (λ e. omega arith)); memory = λ a k. refl; log = refl }
+        on = refl;
+        here = h;
+        fixed = λ j. refl;
+        arguments = λ j. refl;
+        temporaries = λ j k. only-puts Temporary d v q σ h .other Temporary j (apart Temporary d j (λ e. omega arith));
+        memory = λ a k. refl;
+        log = refl;
+      }
       go false = only-same (only-puts Scratch 0 v q σ h)
 
   pub value-target : (d v : ℕ) (σ : State) → value (puts (target d) v σ) (target d) ≡ v
@@ -132,13 +151,20 @@ module _ (S : Setting) where
       go : (t : Bool) → At (S .code) p (pick t [] (sw (scratch 0) sp (4 * temporaryWord d) ∷ [])) q → value σ (pick t (reg Temporary d) (scratch 0)) ≡ v
           → (τ : State) × Ran S 1 σ τ × Same B d q σ τ × (valueBy t d B τ ≡ v)
       go true c hv = (σ, ran-none S, only-same (only-none {b = Scratch} {m = 0} on (hp ∙ c)), hv)
-      go false c hv =
-          (stores (B + 4 * temporaryWord d) (σ .registers Scratch 0) σ,
-          ran-step S on hp (c .0) (sw-step (S .room) (scratch 0) (4 * temporaryWord d) σ F (omega arith) (omega arith) hs) (ran-none S),
-          record {
-            on = refl; here = ap suc hp ∙ c .1; fixed = λ j. refl; arguments = λ j. refl; temporaries = λ j k. refl;
-            memory = λ a k. updated-other (σ .memory) (B + 4 * temporaryWord d) (σ .registers Scratch 0) a (λ e. omega arith); log = refl },
-          updated-same (σ .memory) (B + 4 * temporaryWord d) (σ .registers Scratch 0) ∙ hv)
+      go false c hv = (
+        stores (B + 4 * temporaryWord d) (σ .registers Scratch 0) σ,
+        ran-step S on hp (c .0) (sw-step (S .room) (scratch 0) (4 * temporaryWord d) σ F (omega arith) (omega arith) hs) (ran-none S),
+        record {
+          on = refl;
+          here = ap suc hp ∙ c .1;
+          fixed = λ j. refl;
+          arguments = λ j. refl;
+          temporaries = λ j k. refl;
+          memory = λ a k. updated-other (σ .memory) (B + 4 * temporaryWord d) (σ .registers Scratch 0) a (λ e. omega arith);
+          log = refl;
+        },
+        updated-same (σ .memory) (B + 4 * temporaryWord d) (σ .registers Scratch 0) ∙ hv,
+      )
 
   -- an instruction gives temporary d its value
   pub put-ok : {B : ℕ} (d v p q : ℕ) (i : Instruction) (σ : State) → Framed B → d < 431 → σ .registers Fixed 1 ≡ B → At (S .code) p (i ∷ keep d) q

@@ -178,8 +178,14 @@ module _ (L : Linked) (A : Activation L) where
       let g = fetch-ok S pb 1 (t .0) (u .0) (h .0) (framed L A) tb (h .2 .other Fixed 1 refl ∙ hs) (u .1) (h .2 .on) (h .2 .here) in
       let s1 : Same B e (t .0) ρ (h .0) = only-same (h .2) in
       record {
-        at = u .0; to = g .0; ran = ran-trans S (h .1) (g .1); same = same-join (same-less he s1) (only-same (g .2));
-        left-is = source-only S pa (g .2) ∙ h .3; right-is = g .3 ∙ value-same pb sb s1; rest = u .2 }
+        at = u .0;
+        to = g .0;
+        ran = ran-trans S (h .1) (g .1);
+        same = same-join (same-less he s1) (only-same (g .2));
+        left-is = source-only S pa (g .2) ∙ h .3;
+        right-is = g .3 ∙ value-same pb sb s1;
+        rest = u .2;
+      }
 
   -- what stays as an expression's last instructions run: from ρ, where the world is as it is at the end
   pub record Ready (σ : State) (d : ℕ) (ls₀ : List ℕ) (f : ℕ) (ls : List ℕ) (w : World) (ρ : State) : Type 0 where
@@ -196,13 +202,14 @@ module _ (L : Linked) (A : Activation L) where
   works (plain k t) x y d p q f r s ls₀ ls w σ ρ ω hd Y G hx hy hc =
       let c = core-same L A (Y .cor) G in
       let h = put-ok S d (aluOf k (pick t y x) (pick t x y)) p q _ ω (framed L A) hd (c .sp-is) hc (G .on) (G .here)
-            (ap (λ (v : ℕ). puts (target d) v ω) (sides (aluOf k) t r s ω x y hx hy)) in
+      (ap (λ (v : ℕ). puts (target d) v ω) (sides (aluOf k) t r s ω x y hx hy)) in
       sound-ran S 2 (omega arith) (h .1)
       (sound-end S (omega arith) (omega arith) (finish L A (Y .cor) (same-join G (h .2)) (h .3) (Y .keep) (Y .locals) (Y .less)))
   works (divided k) x y d p q f r s ls₀ ls w σ ρ ω hd Y G hx hy hc = go (eqb y 0) refl
     where
       jump-to : (t : Bool) → eqb y 0 ≡ t → exec1 (S .room) (branch Ne s x0 2) ω ≡ goto (pick (not t) (ω .pc + 2) (suc (ω .pc))) ω
       jump-to t e = ap (λ (b : Bool). goto (pick b (ω .pc + 2) (suc (ω .pc))) ω) (differs (value ω s)) ∙ ap (λ (v : ℕ). goto (pick (not (eqb v 0)) (ω .pc + 2) (suc (ω .pc))) ω) hy ∙ ap (λ (b : Bool). goto (pick (not b) (ω .pc + 2) (suc (ω .pc))) ω) e
+
       go : (t : Bool) → eqb y 0 ≡ t
           → Sound S (pick t (trap 1) (gives (aluOf k x y)) ls w) (K * w .fuel + 110) (w .fuel) 0 (ExprPost L A σ d q (temporary d) ls₀ f) ω
       go true e =
@@ -213,7 +220,7 @@ module _ (L : Linked) (A : Activation L) where
           let c = core-same L A (Y .cor) G in
           let ω1 : State = goto (suc (suc p)) ω in
           let h = put-ok S d (aluOf k x y) (suc (suc p)) q _ ω1 (framed L A) hd (c .sp-is) (hc .1 .1) refl refl
-                (ap (λ (v : ℕ). puts (target d) (aluOf k v (value ω s)) ω1) hx ∙ ap (λ (v : ℕ). puts (target d) (aluOf k x v) ω1) hy) in
+          (ap (λ (v : ℕ). puts (target d) (aluOf k v (value ω s)) ω1) hx ∙ ap (λ (v : ℕ). puts (target d) (aluOf k x v) ω1) hy) in
           sound-ran S 3 (omega arith)
           (ran-step S {τ = ω1} (G .on) (G .here) (hc .0)
           (jump-to false e ∙ ap (λ (a : ℕ). goto a ω) (let z : ω .pc + 2 ≡ suc (suc p) = omega (arith, G .here) in z)) (h .1))
@@ -223,6 +230,7 @@ module _ (L : Linked) (A : Activation L) where
     where
       jump-to : (b : Bool) → condOf c (pick t y x) (pick t x y) ≡ b → exec1 (S .room) (branch c (left t r s) (right t r s) 3) ω ≡ goto (pick b (ω .pc + 3) (suc (ω .pc))) ω
       jump-to b e = ap (λ (v : Bool). goto (pick v (ω .pc + 3) (suc (ω .pc))) ω) (sides (condOf c) t r s ω x y hx hy ∙ e)
+
       go : (b : Bool) → condOf c (pick t y x) (pick t x y) ≡ b
           → Sound S (goes (bitOf (condOf c (pick t y x) (pick t x y))) ls w) (K * w .fuel + 110) (w .fuel) 0 (ExprPost L A σ d q (temporary d) ls₀ f) ω
       go true e =
@@ -270,7 +278,7 @@ module _ (L : Linked) (A : Activation L) where
       let G : Same B d (t .0) ρ (h .0) = only-same (h .2) in
       let c = core-same L A (Y .cor) G in
       let g = put-ok S d (aluOf k x m) (t .0) q _ (h .0) (framed L A) hd (c .sp-is) (t .2) (G .on) (G .here)
-            (ap (λ (v : ℕ). puts (target d) (aluOf k v m) (h .0)) (h .3 ∙ hx)) in
+      (ap (λ (v : ℕ). puts (target d) (aluOf k v m) (h .0)) (h .3 ∙ hx)) in
       subst (λ (r : Result ℕ). Sound S r (K * w .fuel + 124) (w .fuel) 0 (ExprPost L A σ d q (temporary d) ls₀ f) ρ) (sym er)
       (sound-ran S 4 (omega arith) (ran-trans S (h .1) (g .1))
       (sound-end S (omega arith) (omega arith) (finish L A (Y .cor) (same-join G (g .2)) (g .3) (Y .keep) (Y .locals) (Y .less))))
@@ -325,7 +333,14 @@ module _ (L : Linked) (A : Activation L) where
       → Sound S (goes (apply o x) ls w) (K * w .fuel + 124) (w .fuel) 0 (ExprPost L A σ d q (result o pl d) ls₀ f) ρ
   applies o x d p q f (constant n) ls₀ ls w σ ρ hd tl Y hp hx hc =
       sound-end S (omega arith) (omega arith) (record {
-        on = Y .on; here = hp ∙ hc; cor = Y .cor; is = ap (apply o) hx; keep = Y .keep; locals = Y .locals; less = Y .less })
+        on = Y .on;
+        here = hp ∙ hc;
+        cor = Y .cor;
+        is = ap (apply o) hx;
+        keep = Y .keep;
+        locals = Y .locals;
+        less = Y .less;
+      })
   applies o x d p q f (local y) ls₀ ls w σ ρ hd tl Y hp hx hc = one-alone o x d p q f (local y) ls₀ ls w σ ρ hd tl Y hp hx hc
   applies o x d p q f (temporary j) ls₀ ls w σ ρ hd tl Y hp hx hc = one-alone o x d p q f (temporary j) ls₀ ls w σ ρ hd tl Y hp hx hc
 
@@ -351,9 +366,9 @@ module _ (L : Linked) (A : Activation L) where
           let ω : State = F .to in
           let v : ℕ = getD (w .arrays) (a .offset + i) 0 in
           let h = put-ok S d v r q _ ω (framed L A) hd (cr .sp-is) c (F .same .on) (F .same .here)
-                (ap (λ (n : ℕ). pick (reaches Word n) (puts (target d) (ω .memory n) ω) (quit (Fault 3) ω)) (F .is)
-                ∙ ap (λ (b : Bool). pick b (puts (target d) (ω .memory (address a i)) ω) (quit (Fault 3) ω)) (in-data (address a i) (omega arith) (omega (arith, L .few)) (omega arith))
-                ∙ ap (λ (n : ℕ). puts (target d) n ω) (cr .arrays .cell (a .offset + i) (omega arith))) in
+          (ap (λ (n : ℕ). pick (reaches Word n) (puts (target d) (ω .memory n) ω) (quit (Fault 3) ω)) (F .is)
+          ∙ ap (λ (b : Bool). pick b (puts (target d) (ω .memory (address a i)) ω) (quit (Fault 3) ω)) (in-data (address a i) (omega arith) (omega (arith, L .few)) (omega arith))
+          ∙ ap (λ (n : ℕ). puts (target d) n ω) (cr .arrays .cell (a .offset + i) (omega arith))) in
           sound-ran S 10 (omega arith) (ran-trans S (F .ran) (h .1))
           (sound-end S (omega arith) (omega arith) (finish L A (Y .cor) (same-join (F .same) (h .2)) (h .3) (Y .keep) (Y .locals) (Y .less)))
 
@@ -368,8 +383,13 @@ module _ (L : Linked) (A : Activation L) where
       let j = skip-ok S near (sense t Ne) (source pl 0) x0 k (u .0) q (h .0) (u .2) (h .2 .on) (h .2 .here) _ refl in
       sound-ran S 4 (omega arith) (ran-trans S (h .1) j)
       (sound-end S (omega arith) (omega arith) (record {
-        on = refl; here = ap (λ (n : ℕ). pick (condOf (sense t Ne) n 0) (q + k) q) (h .3 ∙ hv) ∙ aim-test L A t v q k; cor = core-same L A (Y .cor) G;
-        keep = λ j k. value-same (temporary j) k (same-join G (same-goto B d _ (h .0))) ∙ Y .keep j k; locals = Y .locals; less = Y .less }))
+        on = refl;
+        here = ap (λ (n : ℕ). pick (condOf (sense t Ne) n 0) (q + k) q) (h .3 ∙ hv) ∙ aim-test L A t v q k;
+        cor = core-same L A (Y .cor) G;
+        keep = λ j k. value-same (temporary j) k (same-join G (same-goto B d _ (h .0))) ∙ Y .keep j k;
+        locals = Y .locals;
+        less = Y .less;
+      }))
 
   -- two values are compared
   pub compares : (c : Cond) (turned t near : Bool) (x y d e p q k f : ℕ) (pa pb : Place) (ls₀ ls : List ℕ) (w : World) (σ ρ : State) → There pa → There pb → d ≤ e → Stable pb e
@@ -382,5 +402,9 @@ module _ (L : Linked) (A : Activation L) where
       (sound-end S (omega arith) (omega arith) (record {
         on = refl;
         here = sides (λ a b. pick (condOf (sense t c) a b) (q + k) q) turned (source pa 0) (source pb 1) (g .to) x y (g .left-is ∙ hx) (g .right-is ∙ hy)
-          ∙ aim-compare L A t c (pick turned y x) (pick turned x y) q k;
-        cor = core-same L A (Y .cor) (g .same); keep = λ j k. value-same (temporary j) k (same-join (g .same) (same-goto B d _ (g .to))) ∙ Y .keep j k; locals = Y .locals; less = Y .less }))
+            ∙ aim-compare L A t c (pick turned y x) (pick turned x y) q k;
+        cor = core-same L A (Y .cor) (g .same);
+        keep = λ j k. value-same (temporary j) k (same-join (g .same) (same-goto B d _ (g .to))) ∙ Y .keep j k;
+        locals = Y .locals;
+        less = Y .less;
+      }))

@@ -214,9 +214,9 @@ fine-comparing near t c turned p q k tp tq w =
     let last = skip near (sense t c) (left turned (source p 0) (source q 1)) (right turned (source p 0) (source q 1)) k in
     fine-append (fetch p 0) _ (fine-fetch p 0 (omega arith) tp) (fine-append (fetch q 1) _ (fine-fetch q 1 (omega arith) tq)
     (fine-skip near (sense t c) (left turned (source p 0) (source q 1)) (right turned (source p 0) (source q 1)) k
-      (valid-side turned (source p 0) (source q 1) (valid-source p 0 (omega arith)) (valid-source q 1 (omega arith)))
-      (valid-side turned (source q 1) (source p 0) (valid-source q 1 (omega arith)) (valid-source p 0 (omega arith)))
-      (tail-within near k (fetch q 1) last (tail-within near k (fetch p 0) (fetch q 1 ++ last) w))))
+    (valid-side turned (source p 0) (source q 1) (valid-source p 0 (omega arith)) (valid-source q 1 (omega arith)))
+    (valid-side turned (source q 1) (source p 0) (valid-source q 1 (omega arith)) (valid-source p 0 (omega arith)))
+    (tail-within near k (fetch q 1) last (tail-within near k (fetch p 0) (fetch q 1 ++ last) w))))
 
 pub fine-always : (near t : Bool) (n k : ℕ) → Within near (k + length (always t n k)) → AllFine (always t n k)
 unfolding Fine
@@ -232,9 +232,16 @@ fine-locate a p t h = go (inside a p)
     go : (b : Bool) → AllFine (locateBy b a p)
     go true = ((omega arith, upper-fits _), tt)
     go false =
-        fine-append (fetch p 0) _ (fine-fetch p 0 (omega arith) t) (fine-append (constantTo (scratch 1) (a .size)) _ (fine-constant Scratch 1 (a .size) (omega arith) h)
-        ((valid-source p 0 (omega arith), omega arith, omega arith), (omega arith, ((refl, omega arith, valid-source p 0 (omega arith), omega arith),
-        ((omega arith, upper-fits _), ((omega arith, omega arith, omega arith), tt))))))
+        fine-append (fetch p 0) _ (fine-fetch p 0 (omega arith) t) (fine-append (constantTo (scratch 1) (a .size)) _ (fine-constant Scratch 1 (a .size) (omega arith) h) (
+          (valid-source p 0 (omega arith), omega arith, omega arith),
+          (
+            omega arith,
+            (
+              (refl, omega arith, valid-source p 0 (omega arith), omega arith),
+              ((omega arith, upper-fits _), ((omega arith, omega arith, omega arith), tt)),
+            ),
+          ),
+        ))
 
 pub fine-reading : (a : Array) (p : Place) (d : ℕ) → There p → a .size < 2 ^ 32 → d < 431 → AllFine (reading a p d)
 unfolding Fine
@@ -278,9 +285,16 @@ registers-few d = go (inRegister d) refl
 pub fine-calling : (target : ℕ) (ps : List Place) (d : ℕ) → target ≤ 131072 → AllThere ps → length ps ≤ 8 → AllFine (calling target ps d)
 unfolding Fine
 fine-calling target ps d ht tp h =
-    fine-append (passes ps 0) _ (fine-passes ps 0 tp (omega arith)) (fine-append (saves (registersOf d)) _ (fine-saves (registersOf d) (registers-few d))
-    ((refl, omega arith, omega arith, small frame-bytes (omega arith)), (ht, ((refl, omega arith, omega arith, minus12 frame-bytes (omega arith) (omega arith)),
-    fine-loads (registersOf d) (registers-few d)))))
+    fine-append (passes ps 0) _ (fine-passes ps 0 tp (omega arith)) (fine-append (saves (registersOf d)) _ (fine-saves (registersOf d) (registers-few d)) (
+      (refl, omega arith, omega arith, small frame-bytes (omega arith)),
+      (
+        ht,
+        (
+          (refl, omega arith, omega arith, minus12 frame-bytes (omega arith) (omega arith)),
+          fine-loads (registersOf d) (registers-few d),
+        ),
+      ),
+    ))
 
 pub fine-deciding : (entry : ℕ → ℕ) (near : Bool) (s : Option (Cond × Bool)) (t : Bool) (o : Strict) (p q : Place) (d k : ℕ) → There p → There q → d < 431
     → Within near (k + length (decidingBy entry near s t o p q d k)) → AllFine (decidingBy entry near s t o p q d k)

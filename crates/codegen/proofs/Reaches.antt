@@ -119,20 +119,24 @@ module _ (functions : List Function) (elements : ℕ) (few : elements ≤ 16384)
           let rest = code entry near b d ++ move (placeOf b d) d in
           let test = condition entry near a false (suc d) (length rest) in
           let r1 : Within near (length (test ++ rest)) = within-less near (let e = length-append (keep d) (test ++ rest) in omega (arith, e)) r in
-          let r2 : Within near (length rest + length test) = within-less near (let e = length-append test rest in omega (arith, e)) r1 in
-          ((refl, valid-target d, tt, small 0 (omega arith)), fine-append (keep d) _ (fine-keep d (omega (arith, w .0)))
-          (fine-append test rest (fine-condition a false (suc d) (m - 1) (length rest) (w .1) (omega (arith, w .0)) r2)
-          (fine-append (code entry near b d) _ (fine-code b d m (w .2) h (head-over near (length test) (code entry near b d) (move (placeOf b d) d) (within-less near (omega arith) r2)))
-          (fine-move (placeOf b d) d (there-of b d m (w .2) h) (omega (arith, w .0))))))
+          let r2 : Within near (length rest + length test) = within-less near (let e = length-append test rest in omega (arith, e)) r1 in (
+            (refl, valid-target d, tt, small 0 (omega arith)),
+            fine-append (keep d) _ (fine-keep d (omega (arith, w .0)))
+                (fine-append test rest (fine-condition a false (suc d) (m - 1) (length rest) (w .1) (omega (arith, w .0)) r2)
+                (fine-append (code entry near b d) _ (fine-code b d m (w .2) h (head-over near (length test) (code entry near b d) (move (placeOf b d) d) (within-less near (omega arith) r2)))
+                (fine-move (placeOf b d) d (there-of b d m (w .2) h) (omega (arith, w .0))))),
+          )
       fine-code (C.or a b) d m w h r =
           let rest = code entry near b d ++ move (placeOf b d) d in
           let test = condition entry near a true (suc d) (length rest) in
           let r1 : Within near (length (test ++ rest)) = within-less near (let e = length-append (keep d) (test ++ rest) in omega (arith, e)) r in
-          let r2 : Within near (length rest + length test) = within-less near (let e = length-append test rest in omega (arith, e)) r1 in
-          ((refl, valid-target d, tt, small 1 (omega arith)), fine-append (keep d) _ (fine-keep d (omega (arith, w .0)))
-          (fine-append test rest (fine-condition a true (suc d) (m - 1) (length rest) (w .1) (omega (arith, w .0)) r2)
-          (fine-append (code entry near b d) _ (fine-code b d m (w .2) h (head-over near (length test) (code entry near b d) (move (placeOf b d) d) (within-less near (omega arith) r2)))
-          (fine-move (placeOf b d) d (there-of b d m (w .2) h) (omega (arith, w .0))))))
+          let r2 : Within near (length rest + length test) = within-less near (let e = length-append test rest in omega (arith, e)) r1 in (
+            (refl, valid-target d, tt, small 1 (omega arith)),
+            fine-append (keep d) _ (fine-keep d (omega (arith, w .0)))
+                (fine-append test rest (fine-condition a true (suc d) (m - 1) (length rest) (w .1) (omega (arith, w .0)) r2)
+                (fine-append (code entry near b d) _ (fine-code b d m (w .2) h (head-over near (length test) (code entry near b d) (move (placeOf b d) d) (within-less near (omega arith) r2)))
+                (fine-move (placeOf b d) d (there-of b d m (w .2) h) (omega (arith, w .0))))),
+          )
 
       fine-codes : (xs : Args) (d m : ℕ) → FitsAll functions elements N xs m → d + m ≤ 431 → Within near (length (codes entry near xs d)) → AllFine (codes entry near xs d)
       fine-codes C.none d m w h r = tt
@@ -156,9 +160,11 @@ module _ (functions : List Function) (elements : ℕ) (few : elements ≤ 16384)
           let r2 = tail-over near k (codes entry near xs d) (calling (entry f) (placesOf xs d) d ++ last) r in
           let r3 = tail-over near k (calling (entry f) (placesOf xs d) d) last r2 in
           fine-append (codes entry near xs d) _ (fine-codes xs d m (w .2) h (head-over near k (codes entry near xs d) (calling (entry f) (placesOf xs d) d ++ last) r))
-          (fine-append (calling (entry f) (placesOf xs d) d) last (fine-call f xs d m (w .1) (w .2) h)
-          ((valid-target d, omega arith), fine-append (keep d) test (fine-keep d (omega (arith, w .0)))
-          (fine-testing near t (temporary d) k (omega (arith, w .0)) (tail-over near k (keep d) test (within-less near (omega arith) r3)))))
+          (fine-append (calling (entry f) (placesOf xs d) d) last (fine-call f xs d m (w .1) (w .2) h) (
+            (valid-target d, omega arith),
+            fine-append (keep d) test (fine-keep d (omega (arith, w .0)))
+                (fine-testing near t (temporary d) k (omega (arith, w .0)) (tail-over near k (keep d) test (within-less near (omega arith) r3))),
+          ))
       fine-condition (C.unary T.not e) t d m k w h r = fine-condition e (B2.not t) d m k w h r
       fine-condition (C.unary T.negate e) t d m k w h r =
           let last = testing near t (result T.negate (placeOf e d) d) k in
@@ -174,7 +180,7 @@ module _ (functions : List Function) (elements : ℕ) (few : elements ≤ 16384)
           fine-append (code entry near a d) _ (fine-code a d m (w .1) h (head-over near k (code entry near a d) (code entry near b d2 ++ last) r))
           (fine-append (code entry near b d2) _ (fine-code b d2 (m - 1) (w .2) l (head-over near k (code entry near b d2) last r2))
           (fine-deciding entry near (relation o) t o (placeOf a d) (placeOf b d2) d k (there-of a d m (w .1) h) (there-of b d2 (m - 1) (w .2) l) (omega (arith, w .0))
-            (tail-over near k (code entry near b d2) last r2)))
+          (tail-over near k (code entry near b d2) last r2)))
       fine-condition (C.and a b) false d m k w h r =
           let right = condition entry near b false d k in
           let test = condition entry near a false d (length right + k) in
@@ -243,7 +249,7 @@ module _ (functions : List Function) (elements : ℕ) (few : elements ≤ 16384)
           let r2 = tail-in near test (ca ++ last) r in
           let r3 = tail-in near ca last r2 in
           fine-append test _ (fine-condition e false 0 431 (length ca + over b) (w .0) (omega arith)
-            (within-less near (let x = length-append test (ca ++ last) in let y = length-append ca last in let z = over-in b cb in omega (arith, x, y, z)) r))
+          (within-less near (let x = length-append test (ca ++ last) in let y = length-append ca last in let z = over-in b cb in omega (arith, x, y, z)) r))
           (fine-append ca last (fine-block a (w .1) (head-in near ca last r2))
           (fine-otherwise b cb r3 (fine-block b (w .2) (within-less near (otherwise-in b cb (end-length b)) r3))))
       fine-statement (C.while e b) w r =
@@ -252,7 +258,7 @@ module _ (functions : List Function) (elements : ℕ) (few : elements ≤ 16384)
           let last = jumpBack (length test + length cb) ∷ [] in
           let r2 = tail-in near test (cb ++ last) r in
           fine-append test _ (fine-condition e false 0 431 (suc (length cb)) (w .0) (omega arith)
-            (within-less near (let x = length-append test (cb ++ last) in let y = length-append cb last in omega (arith, x, y)) r))
+          (within-less near (let x = length-append test (cb ++ last) in let y = length-append cb last in omega (arith, x, y)) r))
           (fine-append cb last (fine-block b (w .1) (head-in near cb last r2)) (tt, tt))
       fine-statement C.leave w r = ((refl, omega arith, tt, small 0 (omega arith)), fine-leaving)
       fine-statement (C.give e) w r =
@@ -281,8 +287,15 @@ module _ (functions : List Function) (elements : ℕ) (few : elements ≤ 16384)
     fine-by g hN w r =
         let cl = clears (g .parameters) (g .lets) in
         let bl = block entry near (g .body) in
-        let last = opi Add answer x0 0 ∷ leaving in
-        ((omega arith, omega arith, omega arith), (omega arith, ((omega arith, omega arith, small 0 (omega arith)),
-        fine-append cl _ (fine-clears (g .parameters) (g .lets) (omega arith))
-        (fine-append bl last (fine-block (g .body) w (within-less near (let x = length-append cl (bl ++ last) in let y = length-append bl last in omega (arith, x, y)) r))
-        ((refl, omega arith, tt, small 0 (omega arith)), fine-leaving)))))
+        let last = opi Add answer x0 0 ∷ leaving in (
+          (omega arith, omega arith, omega arith),
+          (
+            omega arith,
+            (
+              (omega arith, omega arith, small 0 (omega arith)),
+              fine-append cl _ (fine-clears (g .parameters) (g .lets) (omega arith))
+                  (fine-append bl last (fine-block (g .body) w (within-less near (let x = length-append cl (bl ++ last) in let y = length-append bl last in omega (arith, x, y)) r))
+                  ((refl, omega arith, tt, small 0 (omega arith)), fine-leaving)),
+            ),
+          ),
+        )

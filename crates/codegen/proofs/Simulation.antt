@@ -70,18 +70,28 @@ module _ (p : Program) (O : Owed p) (arrays : List ℕ) (room : ℕ) (all : leng
       let under : CallIn L 64 = called L (λ f h. O .each f h) (placed p) 64 (omega arith) in
       sound-ran S 3 (omega arith)
       (ran-step S {τ = σ1} refl refl (c .0) refl (ran-step S {τ = σ2} refl refl (c .1 .0) refl
-        (ran-step S {τ = σ3} refl refl (c .1 .1 .0) (ap (λ (v : ℕ). puts request v σ2) one-is) (ran-none S))))
+      (ran-step S {τ = σ3} refl refl (c .1 .1 .0) (ap (λ (v : ℕ). puts request v σ2) one-is) (ran-none S))))
       (sound-step S {z2 = C} {τ = σ4} refl refl (c .1 .1 .1 .0) refl (omega arith) (omega arith)
       (sound-then S {z2 = 0} (call n) 4 (omega arith) (omega arith) (omega arith)
-        (under .run (p .main) [] [] (record { fuel = n; log = []; arrays = arrays }) 4 σ4 (record {
-          on = refl; here = refl; known = O .main-known; arity = sym (O .main-alone); room = refl; limit-is = refl; request-is = refl; ra-is = refl;
-          values = λ i h. absurd (omega arith); log-is = refl; arrays = holds }))
-        (λ v ls w τ Z.
-          let τ1 : State = puts request 0 τ in
-          sound-ran S 2 (omega arith)
-          (ran-step S {τ = τ1} (Z .0 .on) (Z .0 .here) (c .1 .1 .1 .1 .0) (ap (λ (v : ℕ). puts request v τ) zero-is)
-            (ran-step S {τ = quit Exit τ1} refl (ap suc (Z .0 .here)) (c .1 .1 .1 .1 .1 .0) (exits room τ1 refl) (ran-none S {n = 0})))
-          (sound-end S (omega arith) (omega arith) (refl, Z .0 .log-is, Z .0 .arrays)))))
+      (under .run (p .main) [] [] (record { fuel = n; log = []; arrays = arrays }) 4 σ4 (record {
+        on = refl;
+        here = refl;
+        known = O .main-known;
+        arity = sym (O .main-alone);
+        room = refl;
+        limit-is = refl;
+        request-is = refl;
+        ra-is = refl;
+        values = λ i h. absurd (omega arith);
+        log-is = refl;
+        arrays = holds;
+      }))
+      (λ v ls w τ Z.
+      let τ1 : State = puts request 0 τ in
+      sound-ran S 2 (omega arith)
+      (ran-step S {τ = τ1} (Z .0 .on) (Z .0 .here) (c .1 .1 .1 .1 .0) (ap (λ (v : ℕ). puts request v τ) zero-is)
+      (ran-step S {τ = quit Exit τ1} refl (ap suc (Z .0 .here)) (c .1 .1 .1 .1 .1 .0) (exits room τ1 refl) (ran-none S {n = 0})))
+      (sound-end S (omega arith) (omega arith) (refl, Z .0 .log-is, Z .0 .arrays)))))
 
   -- what a run of the source and a run of the machine have in common
   pub record Agree (r : Run) (σ : State) : Type 0 where
@@ -99,7 +109,7 @@ module _ (p : Program) (O : Owed p) (arrays : List ℕ) (room : ℕ) (all : leng
   conclude : (r : Result ℕ) (n : ℕ)
       → Sound S r (K * n + K0) n C0 (λ _ _ w τ. (τ .status ≡ Exit) × (τ .log ≡ w .log) × Arrays (p .elements) (w .arrays) (τ .memory)) (initial arrays)
       → (m : ℕ) × (m + K * ended r .world .fuel ≤ K * n + K0) × (n ≤ ended r .world .fuel + C0 + C * m) × Agree (ended r) (after m)
-        × (ended r .outcome ≡ stopped outOfFuel → ended r .world .fuel ≡ 0)
+      × (ended r .outcome ≡ stopped outOfFuel → ended r .world .fuel ≡ 0)
   conclude (goes a ls w) n h =
       (h .get .m, h .get .up, h .get .low, record { same = h .get .post .0; log = h .get .post .1; blocks = λ _. h .get .post .2 }, λ e. cc)
   conclude (stops (trapped t) w) n h =
@@ -128,10 +138,12 @@ module _ (p : Program) (O : Owed p) (arrays : List ℕ) (room : ℕ) (all : leng
     where
       g : Forward n
       g = forward n
+
       still : Stopped (after (g .m) .status) → Matched n
       still h =
           let e : after (g .m) ≡ after (g .m + n) = sym (later room (instructionsOf p) (g .m) (g .m + n) (initial arrays) (omega arith) h) in
           record { m = g .m + n; slow = omega arith; agree = subst (λ (σ : State). Agree (source n) σ) e (g .agree) }
+
       go : (o : Outcome) → source n .outcome ≡ o → Matched n
       go finished e = still (stopped-exit _ (g .agree .same ∙ ap seen e))
       go (stopped (trapped t)) e = still (stopped-trap t _ (g .agree .same ∙ ap seen e))
@@ -155,6 +167,7 @@ module _ (p : Program) (O : Owed p) (arrays : List ℕ) (room : ℕ) (all : leng
       wrong t finished e = let z : _≡_ {A = ℕ} 0 1 = cc in omega arith
       wrong t (stopped (trapped x)) e = let z : _≡_ {A = ℕ} 0 1 = cc in omega arith
       wrong t (stopped outOfFuel) e = let z : _≡_ {A = ℕ} 0 1 = cc in omega arith
+
       go : (s : Status) → after m .status ≡ s → NoFault s
       go Going e = tt
       go Exit e = tt

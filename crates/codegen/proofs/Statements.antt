@@ -92,8 +92,17 @@ module _ (L : Linked) (A : Activation L) where
   pub post-less : (q f g : ℕ) (fl : Flow) (ls : List ℕ) (w : World) (τ : State) → f ≤ g → StmtPost q f fl ls w τ → StmtPost q g fl ls w τ
   post-less q f g next ls w τ h Q = record { on = Q .on; here = Q .here; cor = Q .cor; less = omega (arith, Q .less) }
   post-less q f g (returned v) ls w τ h Q = record {
-    on = Q .on; here = Q .here; sp-is = Q .sp-is; limit-is = Q .limit-is; request-is = Q .request-is; is = Q .is; log-is = Q .log-is; arrays = Q .arrays;
-    below = Q .below; less = omega (arith, Q .less) }
+    on = Q .on;
+    here = Q .here;
+    sp-is = Q .sp-is;
+    limit-is = Q .limit-is;
+    request-is = Q .request-is;
+    is = Q .is;
+    log-is = Q .log-is;
+    arrays = Q .arrays;
+    below = Q .below;
+    less = omega (arith, Q .less);
+  }
 
   -- a statement's result, seen from further out
   pub outer : {U L₀ z U′ L′ z′ : ℕ} (r : Result Flow) (q f g : ℕ) (σ : State) → f ≤ g → U ≤ U′ → L′ + z ≤ L₀ + z′
@@ -111,20 +120,27 @@ module _ (L : Linked) (A : Activation L) where
   end-in p = record { run = λ ls w σ on hp c. sound-end S (omega arith) (omega arith) (record { on = on; here = hp; cor = c; less = omega arith }) }
 
   then-in : (m n : Act Flow) (y z p r q : ℕ) → StmtIn m y p r → StmtIn n z r q → StmtIn (λ ls w. bind (m ls w) (λ f. followed f n)) (y + z) p q
-  then-in m n y z p r q I J = record { run = λ ls w σ on hp c.
-      sound-bind S {z2 = z} 0 (omega arith) (omega arith) (omega arith) (I .run ls w σ on hp c)
-      (λ fl ls2 w2 τ Q. follow fl n r q (w .fuel) (w .fuel) ls2 w2 τ (omega arith) (omega arith) (omega arith) Q
-        (λ Q. outer (n ls2 w2) q (w2 .fuel) (w .fuel) τ (Q .less) (omega arith) (omega arith) (J .run ls2 w2 τ (Q .on) (Q .here) (Q .cor)))) }
+  then-in m n y z p r q I J = record {
+    run = λ ls w σ on hp c.
+        sound-bind S {z2 = z} 0 (omega arith) (omega arith) (omega arith) (I .run ls w σ on hp c)
+        (λ fl ls2 w2 τ Q. follow fl n r q (w .fuel) (w .fuel) ls2 w2 τ (omega arith) (omega arith) (omega arith) Q
+        (λ Q. outer (n ls2 w2) q (w2 .fuel) (w .fuel) τ (Q .less) (omega arith) (omega arith) (J .run ls2 w2 τ (Q .on) (Q .here) (Q .cor))));
+  }
 
   -- `let` and assignment
   core-set : {ls : List ℕ} {w : World} (σ : State) (x v : ℕ) → x < A .N → Cor L A ls w σ
       → Core (S .elements) B (A .R) (A .N) (A .m₀) (set ls x v) w (σ .registers Fixed) (σ .registers Argument) (updated (σ .memory) (B + 4 * localWord x) v) (σ .log)
   core-set {ls} {w} σ x v hx c = record {
-    sp-is = c .sp-is; limit-is = c .limit-is; request-is = c .request-is; log-is = c .log-is;
+    sp-is = c .sp-is;
+    limit-is = c .limit-is;
+    request-is = c .request-is;
+    log-is = c .log-is;
     arrays = arrays-same L A (λ a k. updated-other (σ .memory) (B + 4 * localWord x) v a (λ e. omega (arith, high L A))) (c .arrays);
-    many = length-set ls x v ∙ c .many; locals = λ y k. go y k (ℕ-discrete y x);
+    many = length-set ls x v ∙ c .many;
+    locals = λ y k. go y k (ℕ-discrete y x);
     ra-is = updated-other (σ .memory) (B + 4 * localWord x) v _ (λ e. omega arith) ∙ c .ra-is;
-    below = λ a k1 k2. updated-other (σ .memory) (B + 4 * localWord x) v a (λ e. omega arith) ∙ c .below a k1 k2 }
+    below = λ a k1 k2. updated-other (σ .memory) (B + 4 * localWord x) v a (λ e. omega arith) ∙ c .below a k1 k2;
+  }
     where
       go : (y : ℕ) → y < A .N → Dec (y ≡ x) → updated (σ .memory) (B + 4 * localWord x) v (B + 4 * localWord y) ≡ getD (set ls x v) y 0
       go y k (yes e) =
@@ -136,33 +152,44 @@ module _ (L : Linked) (A : Activation L) where
       → At (S .code) r (fetch pl 0 ++ (sw (source pl 0) sp (4 * localWord x) ∷ [])) q
       → StmtIn (λ ls w. bind (begin ls w) (λ _ ls w. bind (m ls w) (λ v ls w. bind (assign x v ls w) (λ _. gives next)))) (suc z) p q
   unfolding assign bind
-  put-in m x z p r q pl hf hx I hc = record { run = λ ls w σ on hp c. sound-begin S ls w _ on (c .log-is) (λ f e.
-      sound-bind S {z2 = 0} 128 (omega arith) (omega arith) (omega arith) (I .run ls (spent f w) σ on hp (core-spent L A f c))
-      (λ v ls2 w2 τ Q.
+  put-in m x z p r q pl hf hx I hc = record {
+    run = λ ls w σ on hp c. sound-begin S ls w _ on (c .log-is) (λ f e.
+        sound-bind S {z2 = 0} 128 (omega arith) (omega arith) (omega arith) (I .run ls (spent f w) σ on hp (core-spent L A f c))
+        (λ v ls2 w2 τ Q.
         let t = at-split (S .code) r (fetch pl 0) (sw (source pl 0) sp (4 * localWord x) ∷ []) q hc in
         let h = fetch-ok S pl 0 r (t .0) τ (framed L A) (there L A pl 0 hf) (Q .cor .sp-is) (t .1) (Q .on) (Q .here) in
         let c2 : Cor L A ls2 w2 (h .0) = core-same L A (Q .cor) (only-same {B = B} {d = 0} (h .2)) in
         let few = A .few in
         sound-ran S 3 (omega arith)
         (ran-trans S (h .1) (ran-step S {τ = stores (B + 4 * localWord x) v (h .0)} (h .2 .on) (h .2 .here) (t .2 .0)
-          (sw-step (S .room) (source pl 0) (4 * localWord x) (h .0) (framed L A) (omega arith) (omega arith) (c2 .sp-is)
-          ∙ ap (λ (n : ℕ). stores (B + 4 * localWord x) n (h .0)) (h .3 ∙ Q .is)) (ran-none S {n = 0})))
+        (sw-step (S .room) (source pl 0) (4 * localWord x) (h .0) (framed L A) (omega arith) (omega arith) (c2 .sp-is)
+        ∙ ap (λ (n : ℕ). stores (B + 4 * localWord x) n (h .0)) (h .3 ∙ Q .is)) (ran-none S {n = 0})))
         (sound-end S (omega arith) (omega arith) (record {
-          on = refl; here = ap suc (h .2 .here) ∙ t .2 .1; cor = core-set (h .0) x v hx c2; less = omega (arith, Q .less) })))) }
+          on = refl;
+          here = ap suc (h .2 .here) ∙ t .2 .1;
+          cor = core-set (h .0) x v hx c2;
+          less = omega (arith, Q .less);
+        }))));
+  }
 
   -- a store to an array
   core-write : {ls : List ℕ} {w : World} (σ : State) (a : Array) (i v : ℕ) → i < a .size → a .offset + a .size ≤ S .elements → Cor L A ls w σ
       → Core (S .elements) B (A .R) (A .N) (A .m₀) ls (record { fuel = w .fuel; log = w .log; arrays = set (w .arrays) (a .offset + i) v })
-        (σ .registers Fixed) (σ .registers Argument) (updated (σ .memory) (address a i) v) (σ .log)
+      (σ .registers Fixed) (σ .registers Argument) (updated (σ .memory) (address a i) v) (σ .log)
   core-write {ls} {w} σ a i v hi ha c =
       let few = L .few in
       let hB = high L A in
       record {
-        sp-is = c .sp-is; limit-is = c .limit-is; request-is = c .request-is; log-is = c .log-is; many = c .many;
+        sp-is = c .sp-is;
+        limit-is = c .limit-is;
+        request-is = c .request-is;
+        log-is = c .log-is;
+        many = c .many;
         arrays = record { all = length-set (w .arrays) (a .offset + i) v ∙ c .arrays .all; cell = λ j h. cell j h (ℕ-discrete j (a .offset + i)) };
         locals = λ y k. updated-other (σ .memory) (address a i) v _ (λ e. omega arith) ∙ c .locals y k;
         ra-is = updated-other (σ .memory) (address a i) v _ (λ e. omega arith) ∙ c .ra-is;
-        below = λ b k1 k2. updated-other (σ .memory) (address a i) v b (λ e. omega arith) ∙ c .below b k1 k2 }
+        below = λ b k1 k2. updated-other (σ .memory) (address a i) v b (λ e. omega arith) ∙ c .below b k1 k2;
+      }
     where
       cell : (j : ℕ) → j < S .elements → Dec (j ≡ a .offset + i) → updated (σ .memory) (address a i) v (data-start + 4 * j) ≡ getD (set (w .arrays) (a .offset + i) v) j 0
       cell j h (yes e) =
@@ -181,7 +208,7 @@ module _ (L : Linked) (A : Activation L) where
     where
       go : (r : ℕ) → At (S .code) r (fetch pv 1 ++ (sw (source pv 1) (scratch 0) (offset a pl) ∷ [])) q → (b : Bool) → ltb i (a .size) ≡ b → Located S b B e r (offset a pl) i a ρ
           → Sound S (bind (pick b (λ ls w. written a i v ls w) (trap 2) ls w) (λ _. gives next))
-            (K * w .fuel + 100) (w .fuel) 0 (StmtPost q f) ρ
+          (K * w .fuel + 100) (w .fuel) 0 (StmtPost q f) ρ
       go r hc false eb F =
           let cr = core-same L A c (F .same) in
           sound-ran S 8 (omega arith) (F .ran)
@@ -195,29 +222,33 @@ module _ (L : Linked) (A : Activation L) where
           let c2 : Cor L A ls w (h .0) = core-same L A cr (only-same {B = B} {d = 0} (h .2)) in
           sound-ran S 11 (omega arith)
           (ran-trans S (F .ran) (ran-trans S (h .1) (ran-step S {τ = stores (address a i) v (h .0)} (h .2 .on) (h .2 .here) (u .2 .0)
-            (ap (λ (n : ℕ). pick (reaches Word n) (stores n (value (h .0) (source pv 1)) (h .0)) (quit (Fault 3) (h .0)))
-              (ap (λ (n : ℕ). addW n (offset a pl)) (h .2 .other Scratch 0 refl) ∙ F .is)
-            ∙ ap (λ (b : Bool). pick b (stores (address a i) (value (h .0) (source pv 1)) (h .0)) (quit (Fault 3) (h .0))) (in-data (address a i) (omega arith) (omega arith) (omega arith))
-            ∙ ap (λ (n : ℕ). stores (address a i) n (h .0)) (h .3 ∙ value-same pv sv (F .same) ∙ hv)) (ran-none S {n = 0}))))
+          (ap (λ (n : ℕ). pick (reaches Word n) (stores n (value (h .0) (source pv 1)) (h .0)) (quit (Fault 3) (h .0)))
+          (ap (λ (n : ℕ). addW n (offset a pl)) (h .2 .other Scratch 0 refl) ∙ F .is)
+          ∙ ap (λ (b : Bool). pick b (stores (address a i) (value (h .0) (source pv 1)) (h .0)) (quit (Fault 3) (h .0))) (in-data (address a i) (omega arith) (omega arith) (omega arith))
+          ∙ ap (λ (n : ℕ). stores (address a i) n (h .0)) (h .3 ∙ value-same pv sv (F .same) ∙ hv)) (ran-none S {n = 0}))))
           (sound-end S (omega arith) (omega arith) (record { on = refl; here = ap suc (h .2 .here) ∙ u .2 .1; cor = core-write (h .0) a i v k ha c2; less = hf }))
 
   store-in : (ma mb : Act ℕ) (a : Array) (za zb p r u q : ℕ) (pa pb : Place) → Fit L A pa 0 → Fit L A pb (above pa 0) → a .offset + a .size ≤ S .elements
       → ExprIn L A ma za 0 p r pa → ExprIn L A mb zb (above pa 0) r u pb → At (S .code) u (writing a pa pb) q
       → StmtIn (λ ls w. bind (begin ls w) (λ _ ls w. bind (ma ls w) (λ i ls w. bind (mb ls w) (λ v ls w. bind (write a i v ls w) (λ _. gives next))))) (suc (za + zb)) p q
-  store-in ma mb a za zb p r u q pa pb fa fb ha I J hc = record { run = λ ls w σ on hp c. sound-begin S ls w _ on (c .log-is) (λ f e.
-      sound-bind S {z2 = zb} 128 (omega arith) (omega arith) (omega arith) (I .run ls (spent f w) σ on hp (core-spent L A f c))
-      (λ i ls2 w2 τ Q. sound-bind S {z2 = 0} 100 (omega arith) (omega arith) (omega arith) (J .run ls2 w2 τ (Q .on) (Q .here) (Q .cor))
-      (λ v ls3 w3 ρ Z. writes a i v 0 (suc (above pa 0)) u q (w .fuel) pa pb ls3 w3 ρ (there L A pa 0 fa) (there L A pb (above pa 0) fb)
+  store-in ma mb a za zb p r u q pa pb fa fb ha I J hc = record {
+    run = λ ls w σ on hp c. sound-begin S ls w _ on (c .log-is) (λ f e.
+        sound-bind S {z2 = zb} 128 (omega arith) (omega arith) (omega arith) (I .run ls (spent f w) σ on hp (core-spent L A f c))
+        (λ i ls2 w2 τ Q. sound-bind S {z2 = 0} 100 (omega arith) (omega arith) (omega arith) (J .run ls2 w2 τ (Q .on) (Q .here) (Q .cor))
+        (λ v ls3 w3 ρ Z. writes a i v 0 (suc (above pa 0)) u q (w .fuel) pa pb ls3 w3 ρ (there L A pa 0 fa) (there L A pb (above pa 0) fb)
         (stable L A pb (above pa 0) (suc (above pa 0)) fb (omega arith)) ha (Z .cor) (Z .on) (Z .here)
-        (still L A pa 0 i ls2 ls3 w2 w3 τ ρ fa (Q .is) (Q .cor) (Z .cor) (Z .locals) (Z .keep)) (Z .is) hc (omega (arith, Q .less, Z .less))))) }
+        (still L A pa 0 i ls2 ls3 w2 w3 τ ρ fa (Q .is) (Q .cor) (Z .cor) (Z .locals) (Z .keep)) (Z .is) hc (omega (arith, Q .less, Z .less)))));
+  }
 
   -- Conditions: over a block, or to the one behind it.
 
   choose-end : (m : Act ℕ) (n : Act Flow) (y z p r q k : ℕ) → k ≡ q - r → r ≤ q → CondIn L A m y false 0 p r k → StmtIn n z r q
       → StmtIn (λ ls w. bind (begin ls w) (λ _ ls w. bind (m ls w) (λ v. branch v n (gives next)))) (suc (y + (z + 0))) p q
-  choose-end m n y z p r q k hk hr I J = record { run = λ ls w σ on hp c. sound-begin S ls w _ on (c .log-is) (λ f e.
-      sound-bind S {z2 = z} 128 (omega arith) (omega arith) (omega arith) (I .run ls (spent f w) σ on hp (core-spent L A f c))
-      (λ v ls2 w2 τ Q. go v ls ls2 w2 f (w .fuel) σ τ (omega arith) Q)) }
+  choose-end m n y z p r q k hk hr I J = record {
+    run = λ ls w σ on hp c. sound-begin S ls w _ on (c .log-is) (λ f e.
+        sound-bind S {z2 = z} 128 (omega arith) (omega arith) (omega arith) (I .run ls (spent f w) σ on hp (core-spent L A f c))
+        (λ v ls2 w2 τ Q. go v ls ls2 w2 f (w .fuel) σ τ (omega arith) Q));
+  }
     where
       go : (v : ℕ) (ls ls2 : List ℕ) (w2 : World) (f g : ℕ) (σ τ : State) → f ≤ g → CondPost L A false σ 0 r k ls f v ls2 w2 τ
           → Sound S (branch v n (gives next) ls2 w2) (K * w2 .fuel + 128) (w2 .fuel) z (StmtPost q g) τ
@@ -236,9 +267,11 @@ module _ (L : Linked) (A : Activation L) where
   choose-else : (m : Act ℕ) (na nb : Act Flow) (y za zb p r u q k j : ℕ) → k ≡ suc (u - r) → r ≤ u → u + j ≡ q → CondIn L A m y false 0 p r k → StmtIn na za r u
       → getD (S .code) u bad ≡ jump j → StmtIn nb zb (suc u) q
       → StmtIn (λ ls w. bind (begin ls w) (λ _ ls w. bind (m ls w) (λ v. branch v na nb))) (suc (y + (za + zb))) p q
-  choose-else m na nb y za zb p r u q k j hk hr hj I J hc J2 = record { run = λ ls w σ on hp c. sound-begin S ls w _ on (c .log-is) (λ f e.
-      sound-bind S {z2 = za + zb} 128 (omega arith) (omega arith) (omega arith) (I .run ls (spent f w) σ on hp (core-spent L A f c))
-      (λ v ls2 w2 τ Q. go v ls ls2 w2 f (w .fuel) σ τ (omega arith) Q)) }
+  choose-else m na nb y za zb p r u q k j hk hr hj I J hc J2 = record {
+    run = λ ls w σ on hp c. sound-begin S ls w _ on (c .log-is) (λ f e.
+        sound-bind S {z2 = za + zb} 128 (omega arith) (omega arith) (omega arith) (I .run ls (spent f w) σ on hp (core-spent L A f c))
+        (λ v ls2 w2 τ Q. go v ls ls2 w2 f (w .fuel) σ τ (omega arith) Q));
+  }
     where
       go : (v : ℕ) (ls ls2 : List ℕ) (w2 : World) (f g : ℕ) (σ τ : State) → f ≤ g → CondPost L A false σ 0 r k ls f v ls2 w2 τ
           → Sound S (branch v na nb ls2 w2) (K * w2 .fuel + 128) (w2 .fuel) (za + zb) (StmtPost q g) τ
@@ -259,61 +292,85 @@ module _ (L : Linked) (A : Activation L) where
   loop m n y z p r u q k j hs hk hr hj hq I J hc (suc g) ls w σ hg on hp c =
       sound-bind′ S {z2 = z} 104 (omega arith) (λ _ _ _ _ Q. omega (arith, Q .less)) (omega arith) (omega arith) (I .run ls w σ on hp c)
       (λ v ls2 w2 τ Q. go v ls ls2 w w2 σ τ hg Q
-        (λ ls3 w3 ρ h2 on2 hp2 c3. loop m n y z p r u q k j hs hk hr hj hq I J hc g ls3 w3 ρ h2 on2 hp2 c3))
+      (λ ls3 w3 ρ h2 on2 hp2 c3. loop m n y z p r u q k j hs hk hr hj hq I J hc g ls3 w3 ρ h2 on2 hp2 c3))
     where
       go : (v : ℕ) (ls ls2 : List ℕ) (w w2 : World) (σ τ : State) → w .fuel ≤ suc g → CondPost L A false σ 0 r k ls (w .fuel) v ls2 w2 τ
           → ((ls3 : List ℕ) (w3 : World) (ρ : State) → w3 .fuel ≤ g → ρ .status ≡ Going → ρ .pc ≡ p → Cor L A ls3 w3 ρ
-            → Sound S (rounds g m n ls3 w3) (K * w3 .fuel + 8) (w3 .fuel) (y + z) (StmtPost q (w3 .fuel)) ρ)
+          → Sound S (rounds g m n ls3 w3) (K * w3 .fuel + 8) (w3 .fuel) (y + z) (StmtPost q (w3 .fuel)) ρ)
           → Sound S (branch v (λ ls w. bind (n ls w) (λ f. followed f (rounds g m n))) (gives next) ls2 w2) (K * w2 .fuel + 104) (w2 .fuel) z (StmtPost q (w .fuel)) τ
       go zero ls ls2 w w2 σ τ hg Q again =
           sound-end S (omega arith) (omega arith) (record { on = Q .on; here = Q .here ∙ (let y : r + k ≡ q = omega arith in y); cor = Q .cor; less = omega (arith, Q .less) })
       go (suc v) ls ls2 w w2 σ τ hg Q again =
           sound-bind S {z2 = 0} 104 (omega arith) (omega arith) (omega arith) (J .run ls2 w2 τ (Q .on) (Q .here) (Q .cor))
           (λ fl ls3 w3 ρ Z. follow fl (rounds g m n) u q (w2 .fuel) (w .fuel) ls3 w3 ρ (omega arith) (omega arith) (omega (arith, Q .less)) Z
-            (λ Z. sound-step S {z2 = y + z} {τ = goto p ρ} (Z .on) (Z .here) hc (ap (λ (a : ℕ). goto a ρ) (let e : ρ .pc - j ≡ p = omega (arith, Z .here) in e)) (omega arith) (omega arith)
-              (outer (rounds g m n ls3 w3) q (w3 .fuel) (w .fuel) (goto p ρ) (omega (arith, Z .less, Q .less)) (omega arith) (omega arith)
-              (again ls3 w3 (goto p ρ) (omega (arith, Z .less, Q .less)) refl refl (Z .cor)))))
+          (λ Z. sound-step S {z2 = y + z} {τ = goto p ρ} (Z .on) (Z .here) hc (ap (λ (a : ℕ). goto a ρ) (let e : ρ .pc - j ≡ p = omega (arith, Z .here) in e)) (omega arith) (omega arith)
+          (outer (rounds g m n ls3 w3) q (w3 .fuel) (w .fuel) (goto p ρ) (omega (arith, Z .less, Q .less)) (omega arith) (omega arith)
+          (again ls3 w3 (goto p ρ) (omega (arith, Z .less, Q .less)) refl refl (Z .cor)))))
 
   while-in : (m : Act ℕ) (n : Act Flow) (y z p r u q k j : ℕ) → y + z ≤ C → k ≡ suc (u - r) → r ≤ u → p + j ≡ u → q ≡ suc u → CondIn L A m y false 0 p r k → StmtIn n z r u
       → getD (S .code) u bad ≡ jumpBack j → StmtIn (λ ls w. bind (begin ls w) (λ _ ls w. rounds (w .fuel) m n ls w)) (suc (y + z)) p q
-  while-in m n y z p r u q k j hs hk hr hj hq I J hc = record { run = λ ls w σ on hp c. sound-begin S ls w _ on (c .log-is) (λ f e.
-      outer (rounds f m n ls (spent f w)) q f (w .fuel) σ (omega arith) (omega arith) (omega arith)
-      (loop m n y z p r u q k j hs hk hr hj hq I J hc f ls (spent f w) σ (omega arith) on hp (core-spent L A f c))) }
+  while-in m n y z p r u q k j hs hk hr hj hq I J hc = record {
+    run = λ ls w σ on hp c. sound-begin S ls w _ on (c .log-is) (λ f e.
+        outer (rounds f m n ls (spent f w)) q f (w .fuel) σ (omega arith) (omega arith) (omega arith)
+        (loop m n y z p r u q k j hs hk hr hj hq I J hc f ls (spent f w) σ (omega arith) on hp (core-spent L A f c)));
+  }
 
   -- The function returns.
 
   pub leaves : (v p q f : ℕ) (ls : List ℕ) (w : World) (σ : State) → At (S .code) p leaving q → σ .status ≡ Going → σ .pc ≡ p → Cor L A ls w σ → σ .registers Argument 0 ≡ v → w .fuel ≤ f
       → (τ : State) × Ran S 2 σ τ × Back (S .elements) B (A .R) (A .m₀) f v w τ
   leaves v p q f ls w σ hc on hp c hv hf =
-      let τ : State = puts ra (σ .memory (B + 0)) σ in
-      (goto (A .R) τ,
-      ran-step S {τ = τ} on hp (hc .0) (lw-step (S .room) ra 0 σ (framed L A) (omega arith) refl (c .sp-is))
-        (ran-step S {τ = goto (A .R) τ} refl (ap suc hp) (hc .1 .0) (ret-is (S .room) (A .R) τ (c .ra-is)) (ran-none S {n = 0})),
-      record {
-        on = refl; here = refl; sp-is = c .sp-is; limit-is = c .limit-is; request-is = c .request-is; is = hv; log-is = c .log-is; arrays = c .arrays; below = c .below; less = hf })
+      let τ : State = puts ra (σ .memory (B + 0)) σ in (
+        goto (A .R) τ,
+        ran-step S {τ = τ} on hp (hc .0) (lw-step (S .room) ra 0 σ (framed L A) (omega arith) refl (c .sp-is))
+            (ran-step S {τ = goto (A .R) τ} refl (ap suc hp) (hc .1 .0) (ret-is (S .room) (A .R) τ (c .ra-is)) (ran-none S {n = 0})),
+        record {
+          on = refl;
+          here = refl;
+          sp-is = c .sp-is;
+          limit-is = c .limit-is;
+          request-is = c .request-is;
+          is = hv;
+          log-is = c .log-is;
+          arrays = c .arrays;
+          below = c .below;
+          less = hf;
+        },
+      )
 
   -- the register of results is written, nothing else that matters
   pub core-answer : {q : ℕ} {ls : List ℕ} {w : World} {σ τ : State} → Cor L A ls w σ → Only Argument 0 q σ τ → Cor L A ls w τ
   core-answer c o = record {
-    sp-is = o .other Fixed 1 refl ∙ c .sp-is; limit-is = o .other Fixed 2 refl ∙ c .limit-is; request-is = o .other Argument 7 refl ∙ c .request-is; log-is = o .log ∙ c .log-is;
-    arrays = arrays-same L A (λ a h. o .memory a) (c .arrays); many = c .many; locals = λ y h. o .memory _ ∙ c .locals y h; ra-is = o .memory _ ∙ c .ra-is;
-    below = λ a h k. o .memory a ∙ c .below a h k }
+    sp-is = o .other Fixed 1 refl ∙ c .sp-is;
+    limit-is = o .other Fixed 2 refl ∙ c .limit-is;
+    request-is = o .other Argument 7 refl ∙ c .request-is;
+    log-is = o .log ∙ c .log-is;
+    arrays = arrays-same L A (λ a h. o .memory a) (c .arrays);
+    many = c .many;
+    locals = λ y h. o .memory _ ∙ c .locals y h;
+    ra-is = o .memory _ ∙ c .ra-is;
+    below = λ a h k. o .memory a ∙ c .below a h k;
+  }
 
   leave-in : (p q : ℕ) → At (S .code) p (opi Add answer x0 0 ∷ leaving) q → StmtIn (λ ls w. bind (begin ls w) (λ _. gives (returned 0))) 1 p q
-  leave-in p q hc = record { run = λ ls w σ on hp c. sound-begin S ls w _ on (c .log-is) (λ f e.
-      let τ : State = puts answer 0 σ in
-      let h = leaves 0 (suc p) q (w .fuel) ls (spent f w) τ (hc .1) refl (ap suc hp) (core-spent L A f (core-answer c (only-puts Argument 0 0 (suc (σ .pc)) σ refl))) refl (omega arith) in
-      sound-ran S 3 (omega arith) (ran-step S {τ = τ} on hp (hc .0) (ap (λ (n : ℕ). puts answer n σ) zero-is) (h .1))
-      (sound-end S (omega arith) (omega arith) (h .2))) }
+  leave-in p q hc = record {
+    run = λ ls w σ on hp c. sound-begin S ls w _ on (c .log-is) (λ f e.
+        let τ : State = puts answer 0 σ in
+        let h = leaves 0 (suc p) q (w .fuel) ls (spent f w) τ (hc .1) refl (ap suc hp) (core-spent L A f (core-answer c (only-puts Argument 0 0 (suc (σ .pc)) σ refl))) refl (omega arith) in
+        sound-ran S 3 (omega arith) (ran-step S {τ = τ} on hp (hc .0) (ap (λ (n : ℕ). puts answer n σ) zero-is) (h .1))
+        (sound-end S (omega arith) (omega arith) (h .2)));
+  }
 
   give-in : (m : Act ℕ) (z p r s q : ℕ) (pl : Place) → Fit L A pl 0 → ExprIn L A m z 0 p r pl → At (S .code) r (bring pl) s → At (S .code) s leaving q
       → StmtIn (λ ls w. bind (begin ls w) (λ _ ls w. bind (m ls w) (λ v. gives (returned v)))) (suc z) p q
-  give-in m z p r s q pl hf I hb hc = record { run = λ ls w σ on hp c. sound-begin S ls w _ on (c .log-is) (λ f e.
-      sound-bind S {z2 = 0} 128 (omega arith) (omega arith) (omega arith) (I .run ls (spent f w) σ on hp (core-spent L A f c))
-      (λ v ls2 w2 τ Q.
+  give-in m z p r s q pl hf I hb hc = record {
+    run = λ ls w σ on hp c. sound-begin S ls w _ on (c .log-is) (λ f e.
+        sound-bind S {z2 = 0} 128 (omega arith) (omega arith) (omega arith) (I .run ls (spent f w) σ on hp (core-spent L A f c))
+        (λ v ls2 w2 τ Q.
         let h = bring-ok S pl r s τ (framed L A) (there L A pl 0 hf) (Q .cor .sp-is) hb (Q .on) (Q .here) in
         let g = leaves v s q (w .fuel) ls2 w2 (h .0) hc (h .2 .on) (h .2 .here) (core-answer (Q .cor) (h .2)) (h .3 ∙ Q .is) (omega (arith, Q .less)) in
-        sound-ran S 4 (omega arith) (ran-trans S (h .1) (g .1)) (sound-end S (omega arith) (omega arith) (g .2)))) }
+        sound-ran S 4 (omega arith) (ran-trans S (h .1) (g .1)) (sound-end S (omega arith) (omega arith) (g .2))));
+  }
 
   -- a value is logged
   emits : (v p q f : ℕ) (ls : List ℕ) (w : World) (σ : State) → At (S .code) p (ecall ∷ []) q → σ .status ≡ Going → σ .pc ≡ p → Cor L A ls w σ → σ .registers Argument 0 ≡ v → w .fuel ≤ f
@@ -323,39 +380,55 @@ module _ (L : Linked) (A : Activation L) where
     where
       does : (b : Bool) → ltb (length (w .log)) (S .room) ≡ b → ecallOf (S .room) σ ≡ pick b (logs v σ) (quit (Trap 4) σ)
       does b e = emit-is (S .room) σ (c .request-is) ∙ ap (λ (n : ℕ). pick (ltb (length (σ .log)) (S .room)) (logs n σ) (quit (Trap 4) σ)) hv
-        ∙ ap (λ (t : Bool). pick t (logs v σ) (quit (Trap 4) σ)) (ap (λ (l : List ℕ). ltb (length l) (S .room)) (c .log-is) ∙ e)
+          ∙ ap (λ (t : Bool). pick t (logs v σ) (quit (Trap 4) σ)) (ap (λ (l : List ℕ). ltb (length l) (S .room)) (c .log-is) ∙ e)
+
       go : (b : Bool) → ltb (length (w .log)) (S .room) ≡ b
           → Sound S (bind (pick b (logged v ls w) (stops (trapped 4) w)) (λ _. gives next))
-            (K * w .fuel + 100) (w .fuel) 0 (StmtPost q f) σ
+          (K * w .fuel + 100) (w .fuel) 0 (StmtPost q f) σ
       go true e =
           sound-ran S 1 (omega arith) (ran-step S {τ = logs v σ} on hp (hc .0) (does true e) (ran-none S))
           (sound-end S (omega arith) (omega arith) (record {
-            on = refl; here = ap suc hp ∙ hc .1; less = hf;
+            on = refl;
+            here = ap suc hp ∙ hc .1;
+            less = hf;
             cor = record {
-              sp-is = c .sp-is; limit-is = c .limit-is; request-is = c .request-is; log-is = ap (λ (l : List ℕ). l ++ (v ∷ [])) (c .log-is); arrays = c .arrays; many = c .many;
-              locals = c .locals; ra-is = c .ra-is; below = c .below } }))
+              sp-is = c .sp-is;
+              limit-is = c .limit-is;
+              request-is = c .request-is;
+              log-is = ap (λ (l : List ℕ). l ++ (v ∷ [])) (c .log-is);
+              arrays = c .arrays;
+              many = c .many;
+              locals = c .locals;
+              ra-is = c .ra-is;
+              below = c .below;
+            };
+          }))
       go false e =
           sound-ran S 1 (omega arith) (ran-step S {τ = quit (Trap 4) σ} on hp (hc .0) (does false e) (ran-none S))
           (sound-stop S (omega arith) (omega arith) (refl, c .log-is, c .arrays))
 
   emit-in : (m : Act ℕ) (z p r s q : ℕ) (pl : Place) → Fit L A pl 0 → ExprIn L A m z 0 p r pl → At (S .code) r (bring pl) s → At (S .code) s (ecall ∷ []) q
       → StmtIn (λ ls w. bind (begin ls w) (λ _ ls w. bind (m ls w) (λ v ls w. bind (append (S .room) v ls w) (λ _. gives next)))) (suc z) p q
-  emit-in m z p r s q pl hf I hb hc = record { run = λ ls w σ on hp c. sound-begin S ls w _ on (c .log-is) (λ f e.
-      sound-bind S {z2 = 0} 128 (omega arith) (omega arith) (omega arith) (I .run ls (spent f w) σ on hp (core-spent L A f c))
-      (λ v ls2 w2 τ Q.
+  emit-in m z p r s q pl hf I hb hc = record {
+    run = λ ls w σ on hp c. sound-begin S ls w _ on (c .log-is) (λ f e.
+        sound-bind S {z2 = 0} 128 (omega arith) (omega arith) (omega arith) (I .run ls (spent f w) σ on hp (core-spent L A f c))
+        (λ v ls2 w2 τ Q.
         let h = bring-ok S pl r s τ (framed L A) (there L A pl 0 hf) (Q .cor .sp-is) hb (Q .on) (Q .here) in
         sound-ran S 2 (omega arith) (h .1) (sound-rates S (bind (append (S .room) v ls2 w2) (λ _. gives next)) (omega arith) (omega arith)
-        (emits v s q (w .fuel) ls2 w2 (h .0) hc (h .2 .on) (h .2 .here) (core-answer (Q .cor) (h .2)) (h .3 ∙ Q .is) (omega (arith, Q .less)))))) }
+        (emits v s q (w .fuel) ls2 w2 (h .0) hc (h .2 .on) (h .2 .here) (core-answer (Q .cor) (h .2)) (h .3 ∙ Q .is) (omega (arith, Q .less))))));
+  }
 
   -- a call whose result is dropped
   run-in : (m : Act (List ℕ)) (f z p r q : ℕ) (ps : List Place) → f < length (L .functions) → length ps ≡ getD (L .functions) f nothing .parameters → length ps ≤ 8
       → ArgsIn L A m z 0 p r ps → At (S .code) r (calling (L .entry f) ps 0) q
       → StmtIn (λ ls w. bind (begin ls w) (λ _ ls w. bind (m ls w) (λ vs ls w. bind (callAt (S .room) (L .functions) (A .left) f vs ls w) (λ _. gives next)))) (suc z) p q
-  run-in m f z p r q ps hf har few I hc = record { run = λ ls w σ on hp c. sound-begin S ls w _ on (c .log-is) (λ g e.
-      sound-bind S {z2 = 0} 128 (omega arith) (omega arith) (omega arith) (I .run ls (spent g w) σ on hp (core-spent L A g c))
-      (λ vs ls2 w2 τ Q. sound-bind S {z2 = 0} 0 (omega arith) (omega arith) (omega arith)
+  run-in m f z p r q ps hf har few I hc = record {
+    run = λ ls w σ on hp c. sound-begin S ls w _ on (c .log-is) (λ g e.
+        sound-bind S {z2 = 0} 128 (omega arith) (omega arith) (omega arith) (I .run ls (spent g w) σ on hp (core-spent L A g c))
+        (λ vs ls2 w2 τ Q. sound-bind S {z2 = 0} 0 (omega arith) (omega arith) (omega arith)
         (calls L A f vs ps 0 r q ls2 w2 τ (omega arith) (Q .on) (Q .here) (Q .cor) (Q .held) hf har few hc)
-        (λ v ls3 w3 ρ Z. sound-end S (omega arith) (omega arith) (record { on = Z .on; here = Z .here; cor = Z .cor; less = omega (arith, Z .less, Q .less) })))) }
+        (λ v ls3 w3 ρ Z. sound-end S (omega arith) (omega arith) (record { on = Z .on; here = Z .here; cor = Z .cor; less = omega (arith, Z .less, Q .less) }))));
+  }
 
   -- The induction.
 
@@ -369,7 +442,7 @@ module _ (L : Linked) (A : Activation L) where
     -- an `if`, with its blocks' code proved
     if-in : (e : Expr) (a b : Block) (p q : ℕ) → Tests (L .functions) (S .elements) (A .N) e 431
         → At (S .code) p (condition (L .entry) (A .near) e false 0 (length (block (L .entry) (A .near) a) + over b)
-          ++ (block (L .entry) (A .near) a ++ otherwise b (block (L .entry) (A .near) b))) q
+        ++ (block (L .entry) (A .near) a ++ otherwise b (block (L .entry) (A .near) b))) q
         → ((r u : ℕ) → At (S .code) r (block (L .entry) (A .near) a) u → StmtIn (exs a) (sizeOf a) r u)
         → ((r u : ℕ) → At (S .code) r (block (L .entry) (A .near) b) u → StmtIn (exs b) (sizeOf b) r u)
         → StmtIn (λ ls w. bind (begin ls w) (λ _ ls w. bind (ev L A e ls w) (λ v. branch v (exs a) (exs b)))) (suc (nodes e + (sizeOf a + sizeOf b))) p q

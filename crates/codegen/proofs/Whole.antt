@@ -99,17 +99,18 @@ module _ (p : Program) (O : Owed p) (fits : length (instructionsOf p) ≤ 131072
     -- A machine stopped as the source says.
     alike-stop : (fuel limit : ℕ) (stop : Status) → stopFor (src fuel .outcome) ≡ some stop → forward p O arrays room (I .one-each) fuel .m ≤ limit
         → Alike costs p (imageOf (instructionsOf p)) stop (src fuel) (runImage (imageOf (instructionsOf p)) (bytesOfWords arrays) room limit)
-          × (runImage (imageOf (instructionsOf p)) (bytesOfWords arrays) room limit .steps ≤ forward p O arrays room (I .one-each) fuel .m)
+        × (runImage (imageOf (instructionsOf p)) (bytesOfWords arrays) room limit .steps ≤ forward p O arrays room (I .one-each) fuel .m)
     alike-stop fuel limit stop e h =
         let g = forward p O arrays room (I .one-each) fuel in
         let q : aft (g .m) .status ≡ stop = g .agree .same ∙ stop-seen (src fuel .outcome) stop e in
-        let s = follows-stop room (instructionsOf p) arrays loads (g .m) limit h (no-fault p O arrays room (I .one-each) (g .m)) (subst Stopped (sym q) (stop-stopped (src fuel .outcome) stop e)) in
-        (record { stops = s .stops ∙ q; log = s .log ∙ g .agree .log; arrays = block-is (src fuel) (aft (g .m)) s (g .agree) (stop-ends (src fuel .outcome) stop e) },
-        (let k = count-most room (instructionsOf p) (g .m) (initial arrays) in let c = s .counts in omega (arith, k, c)))
+        let s = follows-stop room (instructionsOf p) arrays loads (g .m) limit h (no-fault p O arrays room (I .one-each) (g .m)) (subst Stopped (sym q) (stop-stopped (src fuel .outcome) stop e)) in (
+          record { stops = s .stops ∙ q; log = s .log ∙ g .agree .log; arrays = block-is (src fuel) (aft (g .m)) s (g .agree) (stop-ends (src fuel .outcome) stop e) },
+          (let k = count-most room (instructionsOf p) (g .m) (initial arrays) in let c = s .counts in omega (arith, k, c)),
+        )
 
     ends-at : (fuel : ℕ) (stop : Status) → stopFor (src fuel .outcome) ≡ some stop → (limit : ℕ) → K * (fuel - src fuel .world .fuel) + K0 ≤ limit
         → Alike costs p (imageOf (instructionsOf p)) stop (src fuel) (runImage (imageOf (instructionsOf p)) (bytesOfWords arrays) room limit)
-          × (runImage (imageOf (instructionsOf p)) (bytesOfWords arrays) room limit .steps ≤ K * (fuel - src fuel .world .fuel) + K0)
+        × (runImage (imageOf (instructionsOf p)) (bytesOfWords arrays) room limit .steps ≤ K * (fuel - src fuel .world .fuel) + K0)
     ends-at fuel stop e limit h =
         let f = forward p O arrays room (I .one-each) fuel .fast in
         let t = alike-stop fuel limit stop e (omega (arith, f)) in
@@ -117,14 +118,18 @@ module _ (p : Program) (O : Owed p) (fits : length (instructionsOf p) ≤ 131072
 
     goes-on-at : (fuel : ℕ) → src fuel .outcome ≡ stopped outOfFuel
         → (limit : ℕ) × (fuel ≤ C * limit + C0) × (limit ≤ K * fuel + K0)
-          × (runImage (imageOf (instructionsOf p)) (bytesOfWords arrays) room limit .machine .status ≡ Limit)
-          × (runImage (imageOf (instructionsOf p)) (bytesOfWords arrays) room limit .machine .log ≡ src fuel .world .log)
+        × (runImage (imageOf (instructionsOf p)) (bytesOfWords arrays) room limit .machine .status ≡ Limit)
+        × (runImage (imageOf (instructionsOf p)) (bytesOfWords arrays) room limit .machine .log ≡ src fuel .world .log)
     goes-on-at fuel e =
         let g = forward p O arrays room (I .one-each) fuel in
         let d = g .dry e in
-        let s = follows room (instructionsOf p) arrays loads (g .m) (no-fault p O arrays room (I .one-each) (g .m)) in
-        (g .m, (let a = g .slow in omega (arith, a, d)), (let a = g .fast in omega (arith, a)),
-        s .stops ∙ ap shown (g .agree .same ∙ ap seen e), s .log ∙ g .agree .log)
+        let s = follows room (instructionsOf p) arrays loads (g .m) (no-fault p O arrays room (I .one-each) (g .m)) in (
+          g .m,
+          (let a = g .slow in omega (arith, a, d)),
+          (let a = g .fast in omega (arith, a)),
+          s .stops ∙ ap shown (g .agree .same ∙ ap seen e),
+          s .log ∙ g .agree .log,
+        )
 
     -- what the machine shows at a stop, the source shows with fuel enough
     back-at : (limit : ℕ) (stop : Status) → aft limit .status ≡ stop → Stopped stop → ((o : Outcome) → seen o ≡ stop → stopFor o ≡ some stop)
@@ -144,11 +149,11 @@ module _ (p : Program) (O : Owed p) (fits : length (instructionsOf p) ≤ 131072
     ends-back-at limit stop k e =
         let s = follows room (instructionsOf p) arrays loads limit (no-fault p O arrays room (I .one-each) limit) in
         ⊎-elim (λ (x : stop ≡ Exit).
-          back-at limit stop (shown-exit (aft limit .status) (sym (s .stops) ∙ e ∙ x) ∙ sym x) (subst Stopped (sym x) tt)
-          (λ o y. seen-exit o (y ∙ x) ∙ ap (λ (z : Status). some z) (sym x)))
+        back-at limit stop (shown-exit (aft limit .status) (sym (s .stops) ∙ e ∙ x) ∙ sym x) (subst Stopped (sym x) tt)
+        (λ o y. seen-exit o (y ∙ x) ∙ ap (λ (z : Status). some z) (sym x)))
         (λ (x : (t : ℕ) × (stop ≡ Trap t)).
-          back-at limit stop (shown-trap (aft limit .status) (x .0) (sym (s .stops) ∙ e ∙ x .1) ∙ sym (x .1)) (subst Stopped (sym (x .1)) tt)
-          (λ o y. seen-trap o (x .0) (y ∙ x .1) ∙ ap (λ (z : Status). some z) (sym (x .1)))) k
+        back-at limit stop (shown-trap (aft limit .status) (x .0) (sym (s .stops) ∙ e ∙ x .1) ∙ sym (x .1)) (subst Stopped (sym (x .1)) tt)
+        (λ o y. seen-trap o (x .0) (y ∙ x .1) ∙ ap (λ (z : Status). some z) (sym (x .1)))) k
 
     forever-there : (fuel : ℕ) → (limit : ℕ) × Begins (src fuel .world .log) (runImage (imageOf (instructionsOf p)) (bytesOfWords arrays) room limit .machine .log)
     forever-there fuel =
@@ -184,4 +189,5 @@ module _ (p : Program) (O : Owed p) (fits : length (instructionsOf p) ≤ 131072
     goes-on = λ arrays fuel room I e. goes-on-at arrays room I fuel e;
     ends-back = λ arrays limit room I stop k e. ends-back-at arrays room I limit stop k e;
     never-faults = λ arrays limit room I n e. never-faults room (instructionsOf p) arrays (loads arrays room I) limit (no-fault p O arrays room (I .one-each) limit) n e;
-    same-forever = λ arrays room I. (λ fuel. forever-there arrays room I fuel, λ limit. forever-back arrays room I limit) }
+    same-forever = λ arrays room I. (λ fuel. forever-there arrays room I fuel, λ limit. forever-back arrays room I limit);
+  }
