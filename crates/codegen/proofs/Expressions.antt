@@ -22,17 +22,17 @@ use Rattle.language.specs.Core.{Array, Expr, Args}
 use Rattle.language.specs.Core as C
 use Rattle.language.specs.Meaning.{World, Result, goes, stops, Act, bind, begin, value as gives, branch, apply, operate, read, fetch as fetchLocal, callAt, eval, evals}
 use Rattle.symbolic.specs.Symbolic.{Fixed, Scratch, Argument, Temporary, Reg, x0, reg, answer, Instruction, opi, mv, jump, bad, State, value, goto, puts}
-use Rattle.codegen.specs.Places.{Place, constant, local, temporary, above, inRegister, source, fetch, target, keep, move}
-use Rattle.codegen.specs.Operators.{operating, result, applying, relation, comparing, testing, always, reading}
+use Rattle.codegen.specs.Places.{Place, constant, local, temporary, above, inRegister, source, fetch, target, keep, settle, move}
+use Rattle.codegen.specs.Operators.{skip, sense, operating, result, applying, relation, comparing, testing, always, reading}
 use Rattle.codegen.specs.Expressions.{placeOf, placesOf, calling, decidingBy, code, codes, condition}
 use Rattle.codegen.specs.Owed.{nodes, nodesOf, count, nothing, Callable, Fits, FitsAll, Tests}
 use Rattle.codegen.proofs.Placement.{At, at-split, at-len}
 use Rattle.codegen.proofs.Logic.{K, Arrays, Setting, spent, Post, Sound, sound-rates, sound-bind, sound-bind′, sound-then, sound-then′, sound-post, sound-begin, sound-end, sound-pure, sound-ran, Ran, ran-none, ran-step, ran-trans, ran-most}
 use Rattle.codegen.proofs.Frame.{Same, only-same, same-join, valueAt, There, Stable, value-same}
-use Rattle.codegen.proofs.Macros.{fetch-ok, put-ok}
+use Rattle.codegen.proofs.Macros.{fetch-ok, put-ok, skip-ok}
 use Rattle.codegen.proofs.Elements.{same-goto}
 use Rattle.codegen.proofs.Activation.{Linked, Activation, framed, Cor, core-same, core-spent, ExprPost, Fit, there, stable, above-le, above-most, still, finish, aim, CondPost}
-use Rattle.codegen.proofs.Operators.{one-is, zero-is, apply-lt, aim-not, Ready, operates, applies, reads, tests, compares}
+use Rattle.codegen.proofs.Operators.{one-is, zero-is, apply-lt, aim-test, aim-not, Ready, operates, applies, reads, tests, compares}
 use Rattle.codegen.proofs.Calls.{Held, Returned, calls}
 
 -- the operators that are comparisons
@@ -304,68 +304,66 @@ module _ (L : Linked) (A : Activation L) where
   moves (constant n) v d p q ρ hf hd hs on hp hv hc = copies (constant n) v d p q ρ hf hd hs on hp hv hc
   moves (local y) v d p q ρ hf hd hs on hp hv hc = copies (local y) v d p q ρ (there L A (local y) d hf) hd hs on hp hv hc
 
-  -- the right side becomes the value
-  right-value : (mb : Act ℕ) (zb d r u q f : ℕ) (pl : Place) (ls₀ ls : List ℕ) (w : World) (σ τ : State) → Fit L A pl d → d < 431 → ExprIn mb zb d r u pl
-      → At (S .code) u (move pl d) q → τ .status ≡ Going → τ .pc ≡ r → Cor L A ls w τ
+  -- the left side has decided: 0 or 1 becomes the value
+  left-value : (v d p q f : ℕ) (ls₀ ls : List ℕ) (w : World) (σ τ : State) {zb : ℕ} → d < 431 → aluOf Add 0 v ≡ v → At (S .code) p (settle v d) q
+      → τ .status ≡ Going → τ .pc ≡ p → Cor L A ls w τ
+      → ((j : ℕ) → j < d → valueAt (temporary j) B τ ≡ valueAt (temporary j) B σ) → ls ≡ ls₀ → w .fuel < f
+      → Sound S (goes v ls w) (K * w .fuel + 96) (w .fuel) zb (ExprPost L A σ d q (temporary d) ls₀ f) τ
+  left-value v d p q f ls₀ ls w σ τ hd hv hc on hp c hk he hl =
+      let h = put-ok S d v p q (opi Add (target d) x0 v) τ (framed L A) hd (c .sp-is) hc on hp (ap (λ (n : ℕ). puts (target d) n τ) hv) in
+      sound-ran S 2 (omega arith) (h .1)
+      (sound-end S (omega arith) (omega arith) (finish L A c (h .2) (h .3) hk he hl))
+
+  -- the right side becomes the value, and the other way is jumped over
+  right-over : (mb : Act ℕ) (zb d r u v q j f : ℕ) (pl : Place) (ls₀ ls : List ℕ) (w : World) (σ τ : State) → Fit L A pl d → d < 431 → ExprIn mb zb d r u pl
+      → At (S .code) u (move pl d) v → getD (S .code) v bad ≡ jump j → v + j ≡ q → τ .status ≡ Going → τ .pc ≡ r → Cor L A ls w τ
       → ((j : ℕ) → j < d → valueAt (temporary j) B τ ≡ valueAt (temporary j) B σ) → ls ≡ ls₀ → w .fuel < f
       → Sound S (mb ls w) (K * w .fuel + 96) (w .fuel) zb (ExprPost L A σ d q (temporary d) ls₀ f) τ
-  right-value mb zb d r u q f pl ls₀ ls w σ τ hf hd J hc on hp c hk he hl =
-      sound-then S {z2 = 0} (mb ls w) 4 (omega arith) (omega arith) (omega arith) (J .run ls w τ on hp c)
-      (λ v ls3 w3 ρ Z.
-      let h = moves pl v d u q ρ hf hd (Z .cor .sp-is) (Z .on) (Z .here) (Z .is) hc in
-      sound-ran S 4 (omega arith) (h .1)
-      (sound-end S (omega arith) (omega arith) (finish L A (Z .cor) (h .2) (h .3) (λ j k. Z .keep j k ∙ hk j k) (Z .locals ∙ he) (omega (arith, Z .less)))))
+  right-over mb zb d r u v q j f pl ls₀ ls w σ τ hf hd J hm hj hq on hp c hk he hl =
+      sound-then S {z2 = 0} (mb ls w) 5 (omega arith) (omega arith) (omega arith) (J .run ls w τ on hp c)
+      (λ x ls3 w3 ρ Z.
+      let h = moves pl x d u v ρ hf hd (Z .cor .sp-is) (Z .on) (Z .here) (Z .is) hm in
+      let G : Same B d q (h .0) (goto q (h .0)) = same-goto B d q (h .0) in
+      sound-ran S 5 (omega arith)
+      (ran-trans S (h .1) (ran-step S {τ = goto q (h .0)} (h .2 .on) (h .2 .here) hj
+      (ap (λ (a : ℕ). goto a (h .0)) (let y : h .0 .pc + j ≡ q = omega (arith, h .2 .here) in y)) (ran-none S {n = 0})))
+      (sound-end S (omega arith) (omega arith)
+      (finish L A (Z .cor) (same-join (h .2) G) (value-goto d q x (h .0) (h .3)) (λ j k. Z .keep j k ∙ hk j k) (Z .locals ∙ he) (omega (arith, Z .less)))))
+    where
+      value-goto : (d q x : ℕ) (ρ : State) → valueAt (temporary d) B ρ ≡ x → valueAt (temporary d) B (goto q ρ) ≡ x
+      value-goto d q x ρ e = value-same (temporary d) (let k : d < suc d = omega arith in k) (same-goto B (suc d) q ρ) ∙ e
 
-  -- the value of the left side's default is kept
-  left-value : (v n d q f : ℕ) (ls₀ ls : List ℕ) (w : World) (σ τ₀ τ : State) {zb : ℕ} → τ .status ≡ Going → τ .pc ≡ q → Cor L A ls w τ → valueAt (temporary d) B τ₀ ≡ v
-      → Same B d n σ τ₀ → ((j : ℕ) → j < suc d → valueAt (temporary j) B τ ≡ valueAt (temporary j) B τ₀) → ls ≡ ls₀ → w .fuel < f
-      → Sound S (goes v ls w) (K * w .fuel + 96) (w .fuel) zb (ExprPost L A σ d q (temporary d) ls₀ f) τ
-  left-value v n d q f ls₀ ls w σ τ₀ τ on hp c hv G hk he hl =
-      sound-end S (omega arith) (omega arith) (record {
-        on = on;
-        here = hp;
-        cor = c;
-        is = hk d (omega arith) ∙ hv;
-        keep = λ j h. hk j (omega arith) ∙ value-same (temporary j) h G;
-        locals = he;
-        less = hl;
-      })
-
-  and-in : (ma mb : Act ℕ) (za zb d p r s u q n : ℕ) (pl : Place) → Fit L A pl d → d < 431 → n ≡ q - s → s ≤ q
-      → At (S .code) p (opi Add (target d) x0 0 ∷ keep d) r → CondIn ma za false (suc d) r s n → ExprIn mb zb d s u pl → At (S .code) u (move pl d) q
+  and-in : (ma mb : Act ℕ) (za zb d p s u v q n j : ℕ) (pl : Place) → Fit L A pl d → d < 431 → n ≡ suc (v - s) → s ≤ v → v + j ≡ q
+      → CondIn ma za false d p s n → ExprIn mb zb d s u pl → At (S .code) u (move pl d) v → getD (S .code) v bad ≡ jump j → At (S .code) (suc v) (settle 0 d) q
       → ExprIn (λ ls w. bind (begin ls w) (λ _ ls w. bind (ma ls w) (λ x. branch x mb (gives 0)))) (suc (za + zb)) d p q (temporary d)
-  and-in ma mb za zb d p r s u q n pl hf hd hn hs hk I J hc = record {
+  and-in ma mb za zb d p s u v q n j pl hf hd hn hs hq I J hm hj hc = record {
     run = λ ls w σ on hp c. sound-begin S ls w _ on (c .log-is) (λ f e.
-        let h = put-ok S d 0 p r _ σ (framed L A) hd (c .sp-is) hk on hp (ap (λ (v : ℕ). puts (target d) v σ) zero-is) in
-        sound-ran S 2 (omega arith) (h .1)
-        (sound-bind S {z2 = zb} 96 (omega arith) (omega arith) (omega arith) (I .run ls (spent f w) (h .0) (h .2 .on) (h .2 .here) (core-spent L A f (core-same L A c (h .2))))
-        (λ x ls2 w2 τ Q. go x ls ls2 w2 (w .fuel) f σ (h .0) τ (omega arith) (h .2) (h .3) Q)));
+        sound-bind S {z2 = zb} 96 (omega arith) (omega arith) (omega arith) (I .run ls (spent f w) σ on hp (core-spent L A f c))
+        (λ x ls2 w2 τ Q. go x ls ls2 w2 (w .fuel) f σ τ (omega arith) Q));
   }
     where
-      go : (x : ℕ) (ls ls2 : List ℕ) (w2 : World) (g f : ℕ) (σ τ₀ τ : State) → f ≤ g → Same B d r σ τ₀ → valueAt (temporary d) B τ₀ ≡ 0 → CondPost L A false τ₀ (suc d) s n ls f x ls2 w2 τ
+      go : (x : ℕ) (ls ls2 : List ℕ) (w2 : World) (g f : ℕ) (σ τ : State) → f ≤ g → CondPost L A false σ d s n ls f x ls2 w2 τ
           → Sound S (branch x mb (gives 0) ls2 w2) (K * w2 .fuel + 96) (w2 .fuel) zb (ExprPost L A σ d q (temporary d) ls g) τ
-      go zero ls ls2 w2 g f σ τ₀ τ hg G hv Q =
-          left-value 0 r d q g ls ls2 w2 σ τ₀ τ (Q .on) (Q .here ∙ (let y : s + n ≡ q = omega arith in y)) (Q .cor) hv G (Q .keep) (Q .locals) (omega (arith, Q .less))
-      go (suc x) ls ls2 w2 g f σ τ₀ τ hg G hv Q =
-          right-value mb zb d s u q g pl ls ls2 w2 σ τ hf hd J hc (Q .on) (Q .here) (Q .cor) (λ j k. Q .keep j (omega arith) ∙ value-same (temporary j) k G) (Q .locals) (omega (arith, Q .less))
+      go zero ls ls2 w2 g f σ τ hg Q =
+          left-value 0 d (suc v) q g ls ls2 w2 σ τ hd zero-is hc (Q .on) (Q .here ∙ (let y : s + n ≡ suc v = omega arith in y)) (Q .cor) (Q .keep) (Q .locals) (omega (arith, Q .less))
+      go (suc x) ls ls2 w2 g f σ τ hg Q =
+          right-over mb zb d s u v q j g pl ls ls2 w2 σ τ hf hd J hm hj hq (Q .on) (Q .here) (Q .cor) (Q .keep) (Q .locals) (omega (arith, Q .less))
 
-  or-in : (ma mb : Act ℕ) (za zb d p r s u q n : ℕ) (pl : Place) → Fit L A pl d → d < 431 → n ≡ q - s → s ≤ q
-      → At (S .code) p (opi Add (target d) x0 1 ∷ keep d) r → CondIn ma za true (suc d) r s n → ExprIn mb zb d s u pl → At (S .code) u (move pl d) q
+  or-in : (ma mb : Act ℕ) (za zb d p s u v q n j : ℕ) (pl : Place) → Fit L A pl d → d < 431 → n ≡ suc (v - s) → s ≤ v → v + j ≡ q
+      → CondIn ma za true d p s n → ExprIn mb zb d s u pl → At (S .code) u (move pl d) v → getD (S .code) v bad ≡ jump j → At (S .code) (suc v) (settle 1 d) q
       → ExprIn (λ ls w. bind (begin ls w) (λ _ ls w. bind (ma ls w) (λ x. branch x (gives 1) mb))) (suc (za + zb)) d p q (temporary d)
-  or-in ma mb za zb d p r s u q n pl hf hd hn hs hk I J hc = record {
+  or-in ma mb za zb d p s u v q n j pl hf hd hn hs hq I J hm hj hc = record {
     run = λ ls w σ on hp c. sound-begin S ls w _ on (c .log-is) (λ f e.
-        let h = put-ok S d 1 p r _ σ (framed L A) hd (c .sp-is) hk on hp (ap (λ (v : ℕ). puts (target d) v σ) one-is) in
-        sound-ran S 2 (omega arith) (h .1)
-        (sound-bind S {z2 = zb} 96 (omega arith) (omega arith) (omega arith) (I .run ls (spent f w) (h .0) (h .2 .on) (h .2 .here) (core-spent L A f (core-same L A c (h .2))))
-        (λ x ls2 w2 τ Q. go x ls ls2 w2 (w .fuel) f σ (h .0) τ (omega arith) (h .2) (h .3) Q)));
+        sound-bind S {z2 = zb} 96 (omega arith) (omega arith) (omega arith) (I .run ls (spent f w) σ on hp (core-spent L A f c))
+        (λ x ls2 w2 τ Q. go x ls ls2 w2 (w .fuel) f σ τ (omega arith) Q));
   }
     where
-      go : (x : ℕ) (ls ls2 : List ℕ) (w2 : World) (g f : ℕ) (σ τ₀ τ : State) → f ≤ g → Same B d r σ τ₀ → valueAt (temporary d) B τ₀ ≡ 1 → CondPost L A true τ₀ (suc d) s n ls f x ls2 w2 τ
+      go : (x : ℕ) (ls ls2 : List ℕ) (w2 : World) (g f : ℕ) (σ τ : State) → f ≤ g → CondPost L A true σ d s n ls f x ls2 w2 τ
           → Sound S (branch x (gives 1) mb ls2 w2) (K * w2 .fuel + 96) (w2 .fuel) zb (ExprPost L A σ d q (temporary d) ls g) τ
-      go zero ls ls2 w2 g f σ τ₀ τ hg G hv Q =
-          right-value mb zb d s u q g pl ls ls2 w2 σ τ hf hd J hc (Q .on) (Q .here) (Q .cor) (λ j k. Q .keep j (omega arith) ∙ value-same (temporary j) k G) (Q .locals) (omega (arith, Q .less))
-      go (suc x) ls ls2 w2 g f σ τ₀ τ hg G hv Q =
-          left-value 1 r d q g ls ls2 w2 σ τ₀ τ (Q .on) (Q .here ∙ (let y : s + n ≡ q = omega arith in y)) (Q .cor) hv G (Q .keep) (Q .locals) (omega (arith, Q .less))
+      go zero ls ls2 w2 g f σ τ hg Q =
+          right-over mb zb d s u v q j g pl ls ls2 w2 σ τ hf hd J hm hj hq (Q .on) (Q .here) (Q .cor) (Q .keep) (Q .locals) (omega (arith, Q .less))
+      go (suc x) ls ls2 w2 g f σ τ hg Q =
+          left-value 1 d (suc v) q g ls ls2 w2 σ τ hd one-is hc (Q .on) (Q .here ∙ (let y : s + n ≡ suc v = omega arith in y)) (Q .cor) (Q .keep) (Q .locals) (omega (arith, Q .less))
 
   -- Arguments: each value is at its place, and stays there while the others' code runs.
 
@@ -418,6 +416,29 @@ module _ (L : Linked) (A : Activation L) where
         let h = put-ok S d v s q _ ρ (framed L A) hd (Z .cor .sp-is) hm (Z .on) (Z .here) (ap (λ (n : ℕ). puts (target d) n ρ) (Z .is)) in
         sound-ran S 2 (omega arith) (h .1)
         (sound-end S (omega arith) (omega arith) (finish L A (Z .cor) (h .2) (h .3) (λ j k. Z .keep j k ∙ Q .keep j k) (Z .locals ∙ Q .locals) (omega (arith, Z .less, Q .less)))))));
+  }
+
+  -- a call whose result is tested
+  tested-call : (m : Act (List ℕ)) (f : ℕ) (t : Bool) (z d p r s q k : ℕ) (ps : List Place) → d < 431 → f < length (L .functions)
+      → length ps ≡ getD (L .functions) f nothing .parameters → length ps ≤ 8
+      → ArgsIn m z d p r ps → At (S .code) r (calling (L .entry f) ps d) s → At (S .code) s (skip (A .near) (sense t Ne) answer x0 k) q
+      → CondIn (λ ls w. bind (begin ls w) (λ _ ls w. bind (m ls w) (λ vs. callAt (S .room) (L .functions) (A .left) f vs))) (suc z) t d p q k
+  tested-call m f t z d p r s q k ps hd hf har few I hc hm = record {
+    run = λ ls w σ on hp c. sound-begin S ls w _ on (c .log-is) (λ g e.
+        sound-bind S {z2 = 0} 128 (omega arith) (omega arith) (omega arith) (I .run ls (spent g w) σ on hp (core-spent L A g c))
+        (λ vs ls2 w2 τ Q. sound-then S {z2 = 0} (callAt (S .room) (L .functions) (A .left) f vs ls2 w2) 2 (omega arith) (omega arith) (omega arith)
+        (calls L A f vs ps d r s ls2 w2 τ (omega arith) (Q .on) (Q .here) (Q .cor) (Q .held) hf har few hc)
+        (λ v ls3 w3 ρ Z.
+        let j = skip-ok S (A .near) (sense t Ne) answer x0 k s q ρ hm (Z .on) (Z .here) _ refl in
+        sound-ran S 2 (omega arith) j
+        (sound-end S (omega arith) (omega arith) (record {
+          on = refl;
+          here = ap (λ (n : ℕ). pick (condOf (sense t Ne) n 0) (q + k) q) (Z .is) ∙ aim-test L A t v q k;
+          cor = Z .cor;
+          keep = λ j h. value-same (temporary j) h (same-goto B d _ ρ) ∙ Z .keep j h ∙ Q .keep j h;
+          locals = Z .locals ∙ Q .locals;
+          less = omega (arith, Z .less, Q .less);
+        })))));
   }
 
   -- The induction.
@@ -496,20 +517,26 @@ module _ (L : Linked) (A : Activation L) where
           (expr a d m p (t .0) (w .1) h (t .1)) (expr b d2 (m - 1) (t .0) (u .0) (w .2) k (u .1)) (u .2)
       expr (C.and a b) d m p q w h hc =
           let rest = code (L .entry) (A .near) b d ++ move (placeOf b d) d in
-          let t = at-split (S .code) (suc p) (keep d) (condition (L .entry) (A .near) a false (suc d) (length rest) ++ rest) q (hc .1) in
-          let u = at-split (S .code) (t .0) (condition (L .entry) (A .near) a false (suc d) (length rest)) rest q (t .2) in
-          let v = at-split (S .code) (u .0) (code (L .entry) (A .near) b d) (move (placeOf b d) d) q (u .2) in
-          let len = at-len (S .code) (u .0) rest q (u .2) in
-          and-in (ev a) (ev b) (nodes a) (nodes b) d p (t .0) (u .0) (v .0) q (length rest) (placeOf b d) (fit-of b d m (w .2) h) (omega (arith, w .0)) (omega (arith, len)) (omega (arith, len))
-          (hc .0, t .1) (cond a false (suc d) (m - 1) (t .0) (u .0) (length rest) (w .1) (omega (arith, w .0)) (u .1)) (expr b d m (u .0) (v .0) (w .2) h (v .1)) (v .2)
+          let other = jump (suc (length (settle 0 d))) ∷ settle 0 d in
+          let t = at-split (S .code) p (condition (L .entry) (A .near) a false d (suc (length rest))) (rest ++ other) q hc in
+          let u = at-split (S .code) (t .0) rest other q (t .2) in
+          let v = at-split (S .code) (t .0) (code (L .entry) (A .near) b d) (move (placeOf b d) d) (u .0) (u .1) in
+          let len = at-len (S .code) (t .0) rest (u .0) (u .1) in
+          let end = at-len (S .code) (suc (u .0)) (settle 0 d) q (u .2 .1) in
+          and-in (ev a) (ev b) (nodes a) (nodes b) d p (t .0) (v .0) (u .0) q (suc (length rest)) (suc (length (settle 0 d))) (placeOf b d) (fit-of b d m (w .2) h) (omega (arith, w .0))
+          (omega (arith, len)) (omega (arith, len)) (omega (arith, end))
+          (cond a false d (m - 1) p (t .0) (suc (length rest)) (w .1) (omega arith) (t .1)) (expr b d m (t .0) (v .0) (w .2) h (v .1)) (v .2) (u .2 .0) (u .2 .1)
       expr (C.or a b) d m p q w h hc =
           let rest = code (L .entry) (A .near) b d ++ move (placeOf b d) d in
-          let t = at-split (S .code) (suc p) (keep d) (condition (L .entry) (A .near) a true (suc d) (length rest) ++ rest) q (hc .1) in
-          let u = at-split (S .code) (t .0) (condition (L .entry) (A .near) a true (suc d) (length rest)) rest q (t .2) in
-          let v = at-split (S .code) (u .0) (code (L .entry) (A .near) b d) (move (placeOf b d) d) q (u .2) in
-          let len = at-len (S .code) (u .0) rest q (u .2) in
-          or-in (ev a) (ev b) (nodes a) (nodes b) d p (t .0) (u .0) (v .0) q (length rest) (placeOf b d) (fit-of b d m (w .2) h) (omega (arith, w .0)) (omega (arith, len)) (omega (arith, len))
-          (hc .0, t .1) (cond a true (suc d) (m - 1) (t .0) (u .0) (length rest) (w .1) (omega (arith, w .0)) (u .1)) (expr b d m (u .0) (v .0) (w .2) h (v .1)) (v .2)
+          let other = jump (suc (length (settle 1 d))) ∷ settle 1 d in
+          let t = at-split (S .code) p (condition (L .entry) (A .near) a true d (suc (length rest))) (rest ++ other) q hc in
+          let u = at-split (S .code) (t .0) rest other q (t .2) in
+          let v = at-split (S .code) (t .0) (code (L .entry) (A .near) b d) (move (placeOf b d) d) (u .0) (u .1) in
+          let len = at-len (S .code) (t .0) rest (u .0) (u .1) in
+          let end = at-len (S .code) (suc (u .0)) (settle 1 d) q (u .2 .1) in
+          or-in (ev a) (ev b) (nodes a) (nodes b) d p (t .0) (v .0) (u .0) q (suc (length rest)) (suc (length (settle 1 d))) (placeOf b d) (fit-of b d m (w .2) h) (omega (arith, w .0))
+          (omega (arith, len)) (omega (arith, len)) (omega (arith, end))
+          (cond a true d (m - 1) p (t .0) (suc (length rest)) (w .1) (omega arith) (t .1)) (expr b d m (t .0) (v .0) (w .2) h (v .1)) (v .2) (u .2 .0) (u .2 .1)
 
       pub args : (xs : Args) (d m p q : ℕ) → FitsAll (L .functions) (S .elements) (A .N) xs m → d + m ≤ 431 → At (S .code) p (codes (L .entry) (A .near) xs d) q
           → ArgsIn (evs xs) (nodesOf xs) d p q (placesOf xs d)
@@ -530,12 +557,11 @@ module _ (L : Linked) (A : Activation L) where
           test-in (ev (C.element a i)) s (suc (nodes i)) d p (u .0) q k (temporary d) (refl, omega (arith, w .0))
           (element-in (ev i) a (nodes i) d p (t .0) (u .0) (placeOf i d) (fit-of i d m (w .2) h) (omega (arith, w .0)) (w .1) (expr i d m p (t .0) (w .2) h (t .1)) (u .1)) (u .2)
       cond (C.call f xs) s d m p q k w h hc =
-          let t = at-split (S .code) p (codes (L .entry) (A .near) xs d) (calling (L .entry f) (placesOf xs d) d ++ (mv (target d) answer ∷ (keep d ++ testing (A .near) s (temporary d) k))) q hc in
-          let u = at-split (S .code) (t .0) (calling (L .entry f) (placesOf xs d) d) (mv (target d) answer ∷ (keep d ++ testing (A .near) s (temporary d) k)) q (t .2) in
-          let v = at-split (S .code) (suc (u .0)) (keep d) (testing (A .near) s (temporary d) k) q (u .2 .1) in
-          test-in (ev (C.call f xs)) s (suc (nodesOf xs)) d p (v .0) q k (temporary d) (refl, omega (arith, w .0))
-          (call-in (evs xs) f (nodesOf xs) d p (t .0) (u .0) (v .0) (placesOf xs d) (omega (arith, w .0)) (w .1 .known) (places-count xs d ∙ w .1 .arity)
-          (let k = places-count xs d ∙ w .1 .arity in let s = small f (w .1 .known) in omega (arith, k, s)) (args xs d m p (t .0) (w .2) h (t .1)) (u .1) (u .2 .0, v .1)) (v .2)
+          let last = skip (A .near) (sense s Ne) answer x0 k in
+          let t = at-split (S .code) p (codes (L .entry) (A .near) xs d) (calling (L .entry f) (placesOf xs d) d ++ last) q hc in
+          let u = at-split (S .code) (t .0) (calling (L .entry f) (placesOf xs d) d) last q (t .2) in
+          tested-call (evs xs) f s (nodesOf xs) d p (t .0) (u .0) q k (placesOf xs d) (omega (arith, w .0)) (w .1 .known) (places-count xs d ∙ w .1 .arity)
+          (let k = places-count xs d ∙ w .1 .arity in let s = small f (w .1 .known) in omega (arith, k, s)) (args xs d m p (t .0) (w .2) h (t .1)) (u .1) (u .2)
       cond (C.unary T.not e) s d m p q k w h hc = not-in (ev e) s (nodes e) d p q k (cond e (B2.not s) d m p q k w h hc)
       cond (C.unary T.negate e) s d m p q k w h hc =
           let t = at-split (S .code) p (code (L .entry) (A .near) e d) (applying T.negate (placeOf e d) d ++ testing (A .near) s (result T.negate (placeOf e d) d) k) q hc in

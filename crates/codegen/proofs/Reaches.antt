@@ -9,6 +9,7 @@ use lib.Dec.{ltb}
 use lib.ListN.{length, length-append, getD}
 use borrow.Author.Tests.{ltb-true}
 use Rattle.processor.specs.declared.Alu.the-variants.{Add}
+use Rattle.processor.specs.declared.Cond.the-variants.{Ne}
 use Rattle.language.specs.Tree.{Unary, Strict}
 use Rattle.language.specs.Tree as T
 use Rattle.language.specs.Core.{Array, Expr, Args, Stmt, Block, Function, Program}
@@ -16,16 +17,16 @@ use Rattle.language.specs.Core as C
 use Rattle.symbolic.specs.Symbolic.{Instruction, x0, sp, answer, request, opi, mv, sw, jump, jumpBack, ecall, call}
 use Rattle.symbolic.specs.Fine.{Fine, AllFine}
 use Rattle.symbolic.proofs.AllFine.{fine-append}
-use Rattle.codegen.specs.Places.{Place, constant, local, temporary, above, localWord, source, fetch, target, keep, move, bring}
-use Rattle.codegen.specs.Operators.{operating, result, applying, relation, testing, reading, writing}
+use Rattle.codegen.specs.Places.{Place, constant, local, temporary, above, localWord, source, fetch, target, keep, settle, move, bring}
+use Rattle.codegen.specs.Operators.{skip, sense, operating, result, applying, relation, testing, reading, writing}
 use Rattle.codegen.specs.Expressions.{placeOf, placesOf, calling, decidingBy, code, codes, condition}
-use Rattle.codegen.specs.Statements.{leaving, over, otherwise, statement, block, clears, functionBy, nearIn, function}
+use Rattle.codegen.specs.Statements.{leaving, over, otherwise, brought, answering, statement, block, clears, functionBy, nearIn, function}
 use Rattle.codegen.specs.Image.{starting, traps, functions-start, entryFrom, entryOf, functionsFrom, instructionsOf}
 use Rattle.codegen.specs.Owed.{count, nothing, Callable, Fits, FitsAll, Tests, Runs, RunsAll, Proper, Owed}
 use Rattle.codegen.proofs.Lengths.{by-len, function-len}
 use Rattle.codegen.proofs.Frame.{There}
 use Rattle.codegen.proofs.Operators.{apply-lt}
-use Rattle.codegen.proofs.Ranges.{Within, within-less, within-far, small, valid-source, valid-target, fine-fetch, fine-keep, fine-move, fine-bring, fine-operating, fine-applying, fine-testing, fine-always, fine-reading, fine-writing, AllThere, fine-calling, fine-deciding}
+use Rattle.codegen.proofs.Ranges.{Within, within-less, within-far, small, valid-source, valid-target, fine-fetch, fine-keep, fine-move, fine-bring, fine-skip, fine-operating, fine-applying, fine-testing, fine-always, fine-reading, fine-writing, AllThere, fine-calling, fine-deciding}
 
 -- what is left of the reach in a piece's parts
 head-in : (near : Bool) (a b : List Instruction) → Within near (length (a ++ b)) → Within near (length a)
@@ -116,27 +117,31 @@ module _ (functions : List Function) (elements : ℕ) (few : elements ≤ 16384)
           (fine-append (code entry near b d2) _ (fine-code b d2 (m - 1) (w .2) k (head-in near (code entry near b d2) last r2))
           (fine-operating o (placeOf a d) (placeOf b d2) d (there-of a d m (w .1) h) (there-of b d2 (m - 1) (w .2) k) (omega (arith, w .0))))
       fine-code (C.and a b) d m w h r =
-          let rest = code entry near b d ++ move (placeOf b d) d in
-          let test = condition entry near a false (suc d) (length rest) in
-          let r1 : Within near (length (test ++ rest)) = within-less near (let e = length-append (keep d) (test ++ rest) in omega (arith, e)) r in
-          let r2 : Within near (length rest + length test) = within-less near (let e = length-append test rest in omega (arith, e)) r1 in (
-            (refl, valid-target d, tt, small 0 (omega arith)),
-            fine-append (keep d) _ (fine-keep d (omega (arith, w .0)))
-                (fine-append test rest (fine-condition a false (suc d) (m - 1) (length rest) (w .1) (omega (arith, w .0)) r2)
-                (fine-append (code entry near b d) _ (fine-code b d m (w .2) h (head-over near (length test) (code entry near b d) (move (placeOf b d) d) (within-less near (omega arith) r2)))
-                (fine-move (placeOf b d) d (there-of b d m (w .2) h) (omega (arith, w .0))))),
-          )
+          let cb = code entry near b d in
+          let rest = cb ++ move (placeOf b d) d in
+          let other = jump (suc (length (settle 0 d))) ∷ settle 0 d in
+          let test = condition entry near a false d (suc (length rest)) in
+          let x = length-append test (rest ++ other) in
+          let y = length-append rest other in
+          let z = length-append cb (move (placeOf b d) d) in
+          let o = within-far near r in
+          fine-append test (rest ++ other) (fine-condition a false d (m - 1) (suc (length rest)) (w .1) (omega arith) (within-less near (omega (arith, x, y)) r))
+          (fine-append rest other
+          (fine-append cb (move (placeOf b d) d) (fine-code b d m (w .2) h (within-less near (omega (arith, x, y, z)) r)) (fine-move (placeOf b d) d (there-of b d m (w .2) h) (omega (arith, w .0))))
+          (omega (arith, x, y, o), ((refl, valid-target d, tt, small 0 (omega arith)), fine-keep d (omega (arith, w .0)))))
       fine-code (C.or a b) d m w h r =
-          let rest = code entry near b d ++ move (placeOf b d) d in
-          let test = condition entry near a true (suc d) (length rest) in
-          let r1 : Within near (length (test ++ rest)) = within-less near (let e = length-append (keep d) (test ++ rest) in omega (arith, e)) r in
-          let r2 : Within near (length rest + length test) = within-less near (let e = length-append test rest in omega (arith, e)) r1 in (
-            (refl, valid-target d, tt, small 1 (omega arith)),
-            fine-append (keep d) _ (fine-keep d (omega (arith, w .0)))
-                (fine-append test rest (fine-condition a true (suc d) (m - 1) (length rest) (w .1) (omega (arith, w .0)) r2)
-                (fine-append (code entry near b d) _ (fine-code b d m (w .2) h (head-over near (length test) (code entry near b d) (move (placeOf b d) d) (within-less near (omega arith) r2)))
-                (fine-move (placeOf b d) d (there-of b d m (w .2) h) (omega (arith, w .0))))),
-          )
+          let cb = code entry near b d in
+          let rest = cb ++ move (placeOf b d) d in
+          let other = jump (suc (length (settle 1 d))) ∷ settle 1 d in
+          let test = condition entry near a true d (suc (length rest)) in
+          let x = length-append test (rest ++ other) in
+          let y = length-append rest other in
+          let z = length-append cb (move (placeOf b d) d) in
+          let o = within-far near r in
+          fine-append test (rest ++ other) (fine-condition a true d (m - 1) (suc (length rest)) (w .1) (omega arith) (within-less near (omega (arith, x, y)) r))
+          (fine-append rest other
+          (fine-append cb (move (placeOf b d) d) (fine-code b d m (w .2) h (within-less near (omega (arith, x, y, z)) r)) (fine-move (placeOf b d) d (there-of b d m (w .2) h) (omega (arith, w .0))))
+          (omega (arith, x, y, o), ((refl, valid-target d, tt, small 1 (omega arith)), fine-keep d (omega (arith, w .0)))))
 
       fine-codes : (xs : Args) (d m : ℕ) → FitsAll functions elements N xs m → d + m ≤ 431 → Within near (length (codes entry near xs d)) → AllFine (codes entry near xs d)
       fine-codes C.none d m w h r = tt
@@ -155,16 +160,11 @@ module _ (functions : List Function) (elements : ℕ) (few : elements ≤ 16384)
           (fine-append (reading a (placeOf i d) d) last (fine-reading a (placeOf i d) d (there-of i d m (w .2) h) (omega (arith, w .1)) (omega (arith, w .0)))
           (fine-testing near t (temporary d) k (omega (arith, w .0)) (tail-over near k (reading a (placeOf i d) d) last r2)))
       fine-condition (C.call f xs) t d m k w h r =
-          let test = testing near t (temporary d) k in
-          let last = mv (target d) answer ∷ (keep d ++ test) in
+          let last = skip near (sense t Ne) answer x0 k in
           let r2 = tail-over near k (codes entry near xs d) (calling (entry f) (placesOf xs d) d ++ last) r in
-          let r3 = tail-over near k (calling (entry f) (placesOf xs d) d) last r2 in
           fine-append (codes entry near xs d) _ (fine-codes xs d m (w .2) h (head-over near k (codes entry near xs d) (calling (entry f) (placesOf xs d) d ++ last) r))
-          (fine-append (calling (entry f) (placesOf xs d) d) last (fine-call f xs d m (w .1) (w .2) h) (
-            (valid-target d, omega arith),
-            fine-append (keep d) test (fine-keep d (omega (arith, w .0)))
-                (fine-testing near t (temporary d) k (omega (arith, w .0)) (tail-over near k (keep d) test (within-less near (omega arith) r3))),
-          ))
+          (fine-append (calling (entry f) (placesOf xs d) d) last (fine-call f xs d m (w .1) (w .2) h)
+          (fine-skip near (sense t Ne) answer x0 k (omega arith) tt (tail-over near k (calling (entry f) (placesOf xs d) d) last r2)))
       fine-condition (C.unary T.not e) t d m k w h r = fine-condition e (B2.not t) d m k w h r
       fine-condition (C.unary T.negate e) t d m k w h r =
           let last = testing near t (result T.negate (placeOf e d) d) k in
@@ -205,6 +205,24 @@ module _ (functions : List Function) (elements : ℕ) (few : elements ≤ 16384)
     fine-leaving : AllFine leaving
     unfolding Fine
     fine-leaving = ((omega arith, omega arith, small 0 (omega arith)), (tt, tt))
+
+    fine-brought : (e : Expr) → Fits functions elements N e 431 → Within near (length (brought entry near e)) → AllFine (brought entry near e)
+    fine-brought e w r =
+        fine-append (code entry near e 0) _ (fine-code e 0 431 w (omega arith) (head-in near (code entry near e 0) (bring (placeOf e 0)) r))
+        (fine-bring (placeOf e 0) (there-of e 0 431 w (omega arith)))
+
+    fine-answering : (e : Expr) → Fits functions elements N e 431 → Within near (length (answering entry near e)) → AllFine (answering entry near e)
+    unfolding answering Fits
+    fine-answering (C.call f xs) w r =
+        fine-append (codes entry near xs 0) _ (fine-codes xs 0 431 (w .2) (omega arith) (head-in near (codes entry near xs 0) (calling (entry f) (placesOf xs 0) 0) r))
+        (fine-call f xs 0 431 (w .1) (w .2) (omega arith))
+    fine-answering (C.number n) w r = fine-brought (C.number n) w r
+    fine-answering (C.local x) w r = fine-brought (C.local x) w r
+    fine-answering (C.element a i) w r = fine-brought (C.element a i) w r
+    fine-answering (C.unary o e) w r = fine-brought (C.unary o e) w r
+    fine-answering (C.strict o a b) w r = fine-brought (C.strict o a b) w r
+    fine-answering (C.and a b) w r = fine-brought (C.and a b) w r
+    fine-answering (C.or a b) w r = fine-brought (C.or a b) w r
 
     -- an `if`'s blocks
     fine-otherwise : (b : Block) (c : List Instruction) → Within near (length (otherwise b c)) → AllFine c → AllFine (otherwise b c)
@@ -261,12 +279,8 @@ module _ (functions : List Function) (elements : ℕ) (few : elements ≤ 16384)
           (within-less near (let x = length-append test (cb ++ last) in let y = length-append cb last in omega (arith, x, y)) r))
           (fine-append cb last (fine-block b (w .1) (head-in near cb last r2)) (tt, tt))
       fine-statement C.leave w r = ((refl, omega arith, tt, small 0 (omega arith)), fine-leaving)
-      fine-statement (C.give e) w r =
-          fine-append (code entry near e 0) _ (fine-code e 0 431 w (omega arith) (head-in near (code entry near e 0) (bring (placeOf e 0) ++ leaving) r))
-          (fine-append (bring (placeOf e 0)) leaving (fine-bring (placeOf e 0) (there-of e 0 431 w (omega arith))) fine-leaving)
-      fine-statement (C.emit e) w r =
-          fine-append (code entry near e 0) _ (fine-code e 0 431 w (omega arith) (head-in near (code entry near e 0) (bring (placeOf e 0) ++ (ecall ∷ [])) r))
-          (fine-append (bring (placeOf e 0)) (ecall ∷ []) (fine-bring (placeOf e 0) (there-of e 0 431 w (omega arith))) (tt, tt))
+      fine-statement (C.give e) w r = fine-append (answering entry near e) leaving (fine-answering e w (head-in near (answering entry near e) leaving r)) fine-leaving
+      fine-statement (C.emit e) w r = fine-append (answering entry near e) (ecall ∷ []) (fine-answering e w (head-in near (answering entry near e) (ecall ∷ []) r)) (tt, tt)
       fine-statement (C.run f xs) w r =
           fine-append (codes entry near xs 0) _ (fine-codes xs 0 431 (w .1) (omega arith) (head-in near (codes entry near xs 0) (calling (entry f) (placesOf xs 0) 0) r))
           (fine-call f xs 0 431 (w .0) (w .1) (omega arith))

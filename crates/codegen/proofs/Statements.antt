@@ -23,10 +23,10 @@ use Rattle.symbolic.specs.Symbolic.{Fixed, Scratch, Argument, Temporary, Reg, x
 use Rattle.codegen.specs.Places.{Place, constant, local, temporary, above, localWord, temporaryWord, stack-start, source, fetch, bring}
 use Rattle.codegen.specs.Operators.{stub, address, locate, offset, writing}
 use Rattle.codegen.specs.Expressions.{placeOf, placesOf, calling, code, codes, condition}
-use Rattle.codegen.specs.Statements.{leaving, over, otherwise, statement, block}
+use Rattle.codegen.specs.Statements.{leaving, over, otherwise, brought, answering, statement, block}
 use Rattle.codegen.specs.Owed.{nodes, nodesOf, size, sizeOf, count, nothing, Callable, Fits, FitsAll, Tests, Runs, RunsAll}
 use Rattle.codegen.proofs.Placement.{At, at-split, at-len}
-use Rattle.codegen.proofs.Logic.{K, C, Arrays, Setting, spent, Post, Sound, Halt, sound-rates, sound-bind, sound-bind′, sound-then, sound-post, sound-begin, sound-step, sound-end, sound-stop, sound-pure, sound-ran, Ran, ran-none, ran-step, ran-trans, ran-most}
+use Rattle.codegen.proofs.Logic.{K, C, Arrays, Setting, spent, Post, Sound, Halt, sound-rates, sound-bind, sound-bind′, sound-then, sound-then′, sound-post, sound-begin, sound-step, sound-end, sound-stop, sound-pure, sound-ran, Ran, ran-none, ran-step, ran-trans, ran-most}
 use Rattle.codegen.proofs.Numbers.{in-data}
 use Rattle.codegen.proofs.Frame.{updated-same, updated-other, Framed, Only, only-puts, Same, only-same, same-join, valueAt, There, Stable, value-same, lw-step, sw-step}
 use Rattle.codegen.proofs.Macros.{fetch-ok, bring-ok, trap-ok}
@@ -361,15 +361,48 @@ module _ (L : Linked) (A : Activation L) where
         (sound-end S (omega arith) (omega arith) (h .2)));
   }
 
-  give-in : (m : Act ℕ) (z p r s q : ℕ) (pl : Place) → Fit L A pl 0 → ExprIn L A m z 0 p r pl → At (S .code) r (bring pl) s → At (S .code) s leaving q
+  -- a value is in the register of results
+  pub record AnswerPost (q f v : ℕ) (ls : List ℕ) (w : World) (τ : State) : Type 0 where
+    pub on : τ .status ≡ Going
+    pub here : τ .pc ≡ q
+    pub cor : Cor L A ls w τ
+    pub is : τ .registers Argument 0 ≡ v
+    pub less : w .fuel < f
+
+  pub record AnswerIn (m : Act ℕ) (z p q : ℕ) : Type 0 where
+    pub run : (ls : List ℕ) (w : World) (σ : State) → σ .status ≡ Going → σ .pc ≡ p → Cor L A ls w σ
+        → Sound S (m ls w) (K * w .fuel - 96) (w .fuel) z (AnswerPost q (w .fuel)) σ
+
+  brought-in : (m : Act ℕ) (z p r q : ℕ) (pl : Place) → Fit L A pl 0 → ExprIn L A m z 0 p r pl → At (S .code) r (bring pl) q → AnswerIn m z p q
+  brought-in m z p r q pl hf I hb = record {
+    run = λ ls w σ on hp c.
+        sound-then′ S {z2 = 0} (m ls w) 2 (omega arith) (λ _ _ _ _ Q. omega (arith, Q .less)) (omega arith) (omega arith) (I .run ls w σ on hp c)
+        (λ v ls2 w2 τ Q.
+        let h = bring-ok S pl r q τ (framed L A) (there L A pl 0 hf) (Q .cor .sp-is) hb (Q .on) (Q .here) in
+        sound-ran S 2 (omega arith) (h .1)
+        (sound-end S (omega arith) (omega arith) (record { on = h .2 .on; here = h .2 .here; cor = core-answer (Q .cor) (h .2); is = h .3 ∙ Q .is; less = Q .less })));
+  }
+
+  -- a call's result is there already
+  answered-call : (m : Act (List ℕ)) (f z p r q : ℕ) (ps : List Place) → f < length (L .functions) → length ps ≡ getD (L .functions) f nothing .parameters → length ps ≤ 8
+      → ArgsIn L A m z 0 p r ps → At (S .code) r (calling (L .entry f) ps 0) q
+      → AnswerIn (λ ls w. bind (begin ls w) (λ _ ls w. bind (m ls w) (λ vs. callAt (S .room) (L .functions) (A .left) f vs))) (suc z) p q
+  answered-call m f z p r q ps hf har few I hc = record {
+    run = λ ls w σ on hp c. sound-begin S ls w _ on (c .log-is) (λ g e.
+        sound-bind S {z2 = 0} 128 (omega arith) (omega arith) (omega arith) (I .run ls (spent g w) σ on hp (core-spent L A g c))
+        (λ vs ls2 w2 τ Q. sound-then S {z2 = 0} (callAt (S .room) (L .functions) (A .left) f vs ls2 w2) 0 (omega arith) (omega arith) (omega arith)
+        (calls L A f vs ps 0 r q ls2 w2 τ (omega arith) (Q .on) (Q .here) (Q .cor) (Q .held) hf har few hc)
+        (λ v ls3 w3 ρ Z. sound-end S (omega arith) (omega arith) (record { on = Z .on; here = Z .here; cor = Z .cor; is = Z .is; less = omega (arith, Z .less, Q .less) }))));
+  }
+
+  give-in : (m : Act ℕ) (z p s q : ℕ) → AnswerIn m z p s → At (S .code) s leaving q
       → StmtIn (λ ls w. bind (begin ls w) (λ _ ls w. bind (m ls w) (λ v. gives (returned v)))) (suc z) p q
-  give-in m z p r s q pl hf I hb hc = record {
+  give-in m z p s q I hc = record {
     run = λ ls w σ on hp c. sound-begin S ls w _ on (c .log-is) (λ f e.
         sound-bind S {z2 = 0} 128 (omega arith) (omega arith) (omega arith) (I .run ls (spent f w) σ on hp (core-spent L A f c))
         (λ v ls2 w2 τ Q.
-        let h = bring-ok S pl r s τ (framed L A) (there L A pl 0 hf) (Q .cor .sp-is) hb (Q .on) (Q .here) in
-        let g = leaves v s q (w .fuel) ls2 w2 (h .0) hc (h .2 .on) (h .2 .here) (core-answer (Q .cor) (h .2)) (h .3 ∙ Q .is) (omega (arith, Q .less)) in
-        sound-ran S 4 (omega arith) (ran-trans S (h .1) (g .1)) (sound-end S (omega arith) (omega arith) (g .2))));
+        let g = leaves v s q (w .fuel) ls2 w2 τ hc (Q .on) (Q .here) (Q .cor) (Q .is) (omega (arith, Q .less)) in
+        sound-ran S 2 (omega arith) (g .1) (sound-end S (omega arith) (omega arith) (g .2))));
   }
 
   -- a value is logged
@@ -407,15 +440,13 @@ module _ (L : Linked) (A : Activation L) where
           sound-ran S 1 (omega arith) (ran-step S {τ = quit (Trap 4) σ} on hp (hc .0) (does false e) (ran-none S))
           (sound-stop S (omega arith) (omega arith) (refl, c .log-is, c .arrays))
 
-  emit-in : (m : Act ℕ) (z p r s q : ℕ) (pl : Place) → Fit L A pl 0 → ExprIn L A m z 0 p r pl → At (S .code) r (bring pl) s → At (S .code) s (ecall ∷ []) q
+  emit-in : (m : Act ℕ) (z p s q : ℕ) → AnswerIn m z p s → At (S .code) s (ecall ∷ []) q
       → StmtIn (λ ls w. bind (begin ls w) (λ _ ls w. bind (m ls w) (λ v ls w. bind (append (S .room) v ls w) (λ _. gives next)))) (suc z) p q
-  emit-in m z p r s q pl hf I hb hc = record {
+  emit-in m z p s q I hc = record {
     run = λ ls w σ on hp c. sound-begin S ls w _ on (c .log-is) (λ f e.
         sound-bind S {z2 = 0} 128 (omega arith) (omega arith) (omega arith) (I .run ls (spent f w) σ on hp (core-spent L A f c))
-        (λ v ls2 w2 τ Q.
-        let h = bring-ok S pl r s τ (framed L A) (there L A pl 0 hf) (Q .cor .sp-is) hb (Q .on) (Q .here) in
-        sound-ran S 2 (omega arith) (h .1) (sound-rates S (bind (append (S .room) v ls2 w2) (λ _. gives next)) (omega arith) (omega arith)
-        (emits v s q (w .fuel) ls2 w2 (h .0) hc (h .2 .on) (h .2 .here) (core-answer (Q .cor) (h .2)) (h .3 ∙ Q .is) (omega (arith, Q .less))))));
+        (λ v ls2 w2 τ Q. sound-rates S (bind (append (S .room) v ls2 w2) (λ _. gives next)) (omega arith) (omega arith)
+        (emits v s q (w .fuel) ls2 w2 τ hc (Q .on) (Q .here) (Q .cor) (Q .is) (omega (arith, Q .less)))));
   }
 
   -- a call whose result is dropped
@@ -439,6 +470,25 @@ module _ (L : Linked) (A : Activation L) where
   exs b = blockOf (S .room) (callAt (S .room) (L .functions) (A .left)) b
 
   module _ (small : (f : ℕ) → f < length (L .functions) → getD (L .functions) f nothing .parameters ≤ 8) where
+    brings : (e : Expr) (p q : ℕ) → Fits (L .functions) (S .elements) (A .N) e 431 → At (S .code) p (brought (L .entry) (A .near) e) q → AnswerIn (ev L A e) (nodes e) p q
+    brings e p q w hc =
+        let t = at-split (S .code) p (code (L .entry) (A .near) e 0) (bring (placeOf e 0)) q hc in
+        brought-in (ev L A e) (nodes e) p (t .0) q (placeOf e 0) (fit-of L A e 0 431 w (omega arith)) (expr L A small e 0 431 p (t .0) w (omega arith) (t .1)) (t .2)
+
+    answers : (e : Expr) (p q : ℕ) → Fits (L .functions) (S .elements) (A .N) e 431 → At (S .code) p (answering (L .entry) (A .near) e) q → AnswerIn (ev L A e) (nodes e) p q
+    unfolding answering Fits eval nodes
+    answers (C.call f xs) p q w hc =
+        let t = at-split (S .code) p (codes (L .entry) (A .near) xs 0) (calling (L .entry f) (placesOf xs 0) 0) q hc in
+        answered-call (evs L A xs) f (nodesOf xs) p (t .0) q (placesOf xs 0) (w .1 .known) (places-count L A xs 0 ∙ w .1 .arity)
+        (let k = places-count L A xs 0 ∙ w .1 .arity in let s = small f (w .1 .known) in omega (arith, k, s)) (args L A small xs 0 431 p (t .0) (w .2) (omega arith) (t .1)) (t .2)
+    answers (C.number n) p q w hc = brings (C.number n) p q w hc
+    answers (C.local x) p q w hc = brings (C.local x) p q w hc
+    answers (C.element a i) p q w hc = brings (C.element a i) p q w hc
+    answers (C.unary o e) p q w hc = brings (C.unary o e) p q w hc
+    answers (C.strict o a b) p q w hc = brings (C.strict o a b) p q w hc
+    answers (C.and a b) p q w hc = brings (C.and a b) p q w hc
+    answers (C.or a b) p q w hc = brings (C.or a b) p q w hc
+
     -- an `if`, with its blocks' code proved
     if-in : (e : Expr) (a b : Block) (p q : ℕ) → Tests (L .functions) (S .elements) (A .N) e 431
         → At (S .code) p (condition (L .entry) (A .near) e false 0 (length (block (L .entry) (A .near) a) + over b)
@@ -492,13 +542,11 @@ module _ (L : Linked) (A : Activation L) where
           (sym (u .2 .1)) (cond L A small e false 0 431 p (t .0) (suc (length cb)) (w .0) (omega arith) (t .1)) (blk b (t .0) (u .0) (w .1) (omega arith) (u .1)) (u .2 .0)
       stmt C.leave p q w h hc = leave-in p q hc
       stmt (C.give e) p q w h hc =
-          let t = at-split (S .code) p (code (L .entry) (A .near) e 0) (bring (placeOf e 0) ++ leaving) q hc in
-          let u = at-split (S .code) (t .0) (bring (placeOf e 0)) leaving q (t .2) in
-          give-in (ev L A e) (nodes e) p (t .0) (u .0) q (placeOf e 0) (fit-of L A e 0 431 w (omega arith)) (expr L A small e 0 431 p (t .0) w (omega arith) (t .1)) (u .1) (u .2)
+          let t = at-split (S .code) p (answering (L .entry) (A .near) e) leaving q hc in
+          give-in (ev L A e) (nodes e) p (t .0) q (answers e p (t .0) w (t .1)) (t .2)
       stmt (C.emit e) p q w h hc =
-          let t = at-split (S .code) p (code (L .entry) (A .near) e 0) (bring (placeOf e 0) ++ (ecall ∷ [])) q hc in
-          let u = at-split (S .code) (t .0) (bring (placeOf e 0)) (ecall ∷ []) q (t .2) in
-          emit-in (ev L A e) (nodes e) p (t .0) (u .0) q (placeOf e 0) (fit-of L A e 0 431 w (omega arith)) (expr L A small e 0 431 p (t .0) w (omega arith) (t .1)) (u .1) (u .2)
+          let t = at-split (S .code) p (answering (L .entry) (A .near) e) (ecall ∷ []) q hc in
+          emit-in (ev L A e) (nodes e) p (t .0) q (answers e p (t .0) w (t .1)) (t .2)
       stmt (C.run f xs) p q w h hc =
           let t = at-split (S .code) p (codes (L .entry) (A .near) xs 0) (calling (L .entry f) (placesOf xs 0) 0) q hc in
           run-in (evs L A xs) f (nodesOf xs) p (t .0) q (placesOf xs 0) (w .0 .known) (places-count L A xs 0 ∙ w .0 .arity)

@@ -94,6 +94,10 @@ target d = pick (inRegister d) (reg Temporary d) (scratch 0)
 abbrev pub keep : ℕ → List Instruction
 keep d = pick (inRegister d) [] (sw (scratch 0) sp (4 * temporaryWord d) ∷ [])
 
+-- 0 or 1 becomes temporary d
+abbrev pub settle : ℕ → ℕ → List Instruction
+settle v d = opi Add (target d) x0 v ∷ keep d
+
 -- a value from its place to temporary d, where it may be already
 abbrev pub move : Place → ℕ → List Instruction
 move (constant n) d = fetch (constant n) 0 ++ (mv (target d) (source (constant n) 0) ∷ keep d)
