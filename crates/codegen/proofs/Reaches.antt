@@ -294,7 +294,7 @@ module _ (functions : List Function) (elements : ℕ) (few : elements ≤ 16384)
     fine-clears : (first n : ℕ) → first + n ≤ 64 → AllFine (clears first n)
     unfolding clears Fine
     fine-clears first zero h = tt
-    fine-clears first (suc n) h = fine-append (clears first n) _ (fine-clears first n (omega arith)) ((tt, omega arith, small (4 * localWord (first + n)) (omega arith)), tt)
+    fine-clears first (suc n) h = fine-append (clears first n) _ (fine-clears first n (omega arith)) ((tt, omega arith, small _ (omega arith)), tt)
 
     pub fine-by : (g : Function) → g .parameters + g .lets ≡ N → RunsAll functions elements N (g .body) → Within near (length (functionBy entry near g)) → AllFine (functionBy entry near g)
     unfolding functionBy Fine
