@@ -20,11 +20,11 @@ use Rattle.language.specs.Core.{Array, Expr, Args, Stmt, Block}
 use Rattle.language.specs.Core as C
 use Rattle.language.specs.Meaning.{World, Stop, trapped, outOfFuel, Result, goes, stops, Act, bind, begin, value as gives, trap, branch, write, assign, append, Flow, next, returned, followed, rounds, callAt, eval, exec, block as blockOf}
 use Rattle.symbolic.specs.Symbolic.{Fixed, Scratch, Argument, Temporary, Reg, x0, reg, ra, sp, answer, request, scratch, Instruction, opi, lw, sw, jump, jumpBack, ret, ecall, bad, State, state, updated, value, pos, positionOf, quit, goto, puts, stores, logs, ecallOf, exec1}
-use Rattle.codegen.specs.Places.{Place, constant, local, temporary, above, localWord, temporaryWord, stack-start, source, fetch, bring}
+use Rattle.codegen.specs.Places.{Place, constant, local, temporary, above, localWord, temporaryWord, stack-start, source, fetch, bring, most-temporaries}
 use Rattle.codegen.specs.Operators.{stub, address, locate, offset, writing}
 use Rattle.codegen.specs.Expressions.{placeOf, placesOf, calling, code, codes, condition}
 use Rattle.codegen.specs.Statements.{leaving, over, otherwise, brought, answering, statement, block}
-use Rattle.codegen.specs.Owed.{nodes, nodesOf, size, sizeOf, count, nothing, Callable, Fits, FitsAll, Tests, Runs, RunsAll}
+use Rattle.codegen.specs.Owed.{nodes, nodesOf, size, sizeOf, count, nothing, Callable, Fits, FitsAll, Tests, Runs, RunsAll, most-parameters}
 use Rattle.codegen.proofs.Placement.{At, at-split, at-len}
 use Rattle.codegen.proofs.Logic.{K, C, Arrays, Setting, spent, Post, Sound, Halt, sound-rates, sound-bind, sound-bind′, sound-then, sound-then′, sound-post, sound-begin, sound-step, sound-end, sound-stop, sound-pure, sound-ran, Ran, ran-none, ran-step, ran-trans, ran-most}
 use Rattle.codegen.proofs.Numbers.{in-data}
@@ -384,7 +384,7 @@ module _ (L : Linked) (A : Activation L) where
   }
 
   -- a call's result is there already
-  answered-call : (m : Act (List ℕ)) (f z p r q : ℕ) (ps : List Place) → f < length (L .functions) → length ps ≡ getD (L .functions) f nothing .parameters → length ps ≤ 8
+  answered-call : (m : Act (List ℕ)) (f z p r q : ℕ) (ps : List Place) → f < length (L .functions) → length ps ≡ getD (L .functions) f nothing .parameters → length ps ≤ most-parameters
       → ArgsIn L A m z 0 p r ps → At (S .code) r (calling (L .entry f) ps 0) q
       → AnswerIn (λ ls w. bind (begin ls w) (λ _ ls w. bind (m ls w) (λ vs. callAt (S .room) (L .functions) (A .left) f vs))) (suc z) p q
   answered-call m f z p r q ps hf har few I hc = record {
@@ -450,7 +450,7 @@ module _ (L : Linked) (A : Activation L) where
   }
 
   -- a call whose result is dropped
-  run-in : (m : Act (List ℕ)) (f z p r q : ℕ) (ps : List Place) → f < length (L .functions) → length ps ≡ getD (L .functions) f nothing .parameters → length ps ≤ 8
+  run-in : (m : Act (List ℕ)) (f z p r q : ℕ) (ps : List Place) → f < length (L .functions) → length ps ≡ getD (L .functions) f nothing .parameters → length ps ≤ most-parameters
       → ArgsIn L A m z 0 p r ps → At (S .code) r (calling (L .entry f) ps 0) q
       → StmtIn (λ ls w. bind (begin ls w) (λ _ ls w. bind (m ls w) (λ vs ls w. bind (callAt (S .room) (L .functions) (A .left) f vs ls w) (λ _. gives next)))) (suc z) p q
   run-in m f z p r q ps hf har few I hc = record {
@@ -469,18 +469,18 @@ module _ (L : Linked) (A : Activation L) where
   abbrev pub exs : Block → Act Flow
   exs b = blockOf (S .room) (callAt (S .room) (L .functions) (A .left)) b
 
-  module _ (small : (f : ℕ) → f < length (L .functions) → getD (L .functions) f nothing .parameters ≤ 8) where
-    brings : (e : Expr) (p q : ℕ) → Fits (L .functions) (S .elements) (A .N) e 431 → At (S .code) p (brought (L .entry) (A .near) e) q → AnswerIn (ev L A e) (nodes e) p q
+  module _ (small : (f : ℕ) → f < length (L .functions) → getD (L .functions) f nothing .parameters ≤ most-parameters) where
+    brings : (e : Expr) (p q : ℕ) → Fits (L .functions) (S .elements) (A .N) e most-temporaries → At (S .code) p (brought (L .entry) (A .near) e) q → AnswerIn (ev L A e) (nodes e) p q
     brings e p q w hc =
         let t = at-split (S .code) p (code (L .entry) (A .near) e 0) (bring (placeOf e 0)) q hc in
-        brought-in (ev L A e) (nodes e) p (t .0) q (placeOf e 0) (fit-of L A e 0 431 w (omega arith)) (expr L A small e 0 431 p (t .0) w (omega arith) (t .1)) (t .2)
+        brought-in (ev L A e) (nodes e) p (t .0) q (placeOf e 0) (fit-of L A e 0 most-temporaries w (omega arith)) (expr L A small e 0 most-temporaries p (t .0) w (omega arith) (t .1)) (t .2)
 
-    answers : (e : Expr) (p q : ℕ) → Fits (L .functions) (S .elements) (A .N) e 431 → At (S .code) p (answering (L .entry) (A .near) e) q → AnswerIn (ev L A e) (nodes e) p q
+    answers : (e : Expr) (p q : ℕ) → Fits (L .functions) (S .elements) (A .N) e most-temporaries → At (S .code) p (answering (L .entry) (A .near) e) q → AnswerIn (ev L A e) (nodes e) p q
     unfolding answering Fits eval nodes
     answers (C.call f xs) p q w hc =
         let t = at-split (S .code) p (codes (L .entry) (A .near) xs 0) (calling (L .entry f) (placesOf xs 0) 0) q hc in
         answered-call (evs L A xs) f (nodesOf xs) p (t .0) q (placesOf xs 0) (w .1 .known) (places-count L A xs 0 ∙ w .1 .arity)
-        (let k = places-count L A xs 0 ∙ w .1 .arity in let s = small f (w .1 .known) in omega (arith, k, s)) (args L A small xs 0 431 p (t .0) (w .2) (omega arith) (t .1)) (t .2)
+        (let k = places-count L A xs 0 ∙ w .1 .arity in let s = small f (w .1 .known) in omega (arith, k, s)) (args L A small xs 0 most-temporaries p (t .0) (w .2) (omega arith) (t .1)) (t .2)
     answers (C.number n) p q w hc = brings (C.number n) p q w hc
     answers (C.local x) p q w hc = brings (C.local x) p q w hc
     answers (C.element a i) p q w hc = brings (C.element a i) p q w hc
@@ -490,7 +490,7 @@ module _ (L : Linked) (A : Activation L) where
     answers (C.or a b) p q w hc = brings (C.or a b) p q w hc
 
     -- an `if`, with its blocks' code proved
-    if-in : (e : Expr) (a b : Block) (p q : ℕ) → Tests (L .functions) (S .elements) (A .N) e 431
+    if-in : (e : Expr) (a b : Block) (p q : ℕ) → Tests (L .functions) (S .elements) (A .N) e most-temporaries
         → At (S .code) p (condition (L .entry) (A .near) e false 0 (length (block (L .entry) (A .near) a) + over b)
         ++ (block (L .entry) (A .near) a ++ otherwise b (block (L .entry) (A .near) b))) q
         → ((r u : ℕ) → At (S .code) r (block (L .entry) (A .near) a) u → StmtIn (exs a) (sizeOf a) r u)
@@ -503,7 +503,7 @@ module _ (L : Linked) (A : Activation L) where
         let u = at-split (S .code) (t .0) ca [] q (t .2) in
         let len = at-len (S .code) (t .0) ca (u .0) (u .1) in
         choose-end (ev L A e) (exs a) (nodes e) (sizeOf a) p (t .0) q (length ca + 0) (omega (arith, len, u .2)) (omega (arith, len, u .2))
-        (cond L A small e false 0 431 p (t .0) (length ca + 0) w (omega arith) (t .1)) (I (t .0) q (subst (λ (n : ℕ). At (S .code) (t .0) ca n) (u .2) (u .1)))
+        (cond L A small e false 0 most-temporaries p (t .0) (length ca + 0) w (omega arith) (t .1)) (I (t .0) q (subst (λ (n : ℕ). At (S .code) (t .0) ca n) (u .2) (u .1)))
     if-in e a (C.then s b) p q w hc I J =
         let ca = block (L .entry) (A .near) a in
         let cb = block (L .entry) (A .near) (C.then s b) in
@@ -513,7 +513,7 @@ module _ (L : Linked) (A : Activation L) where
         let lb = at-len (S .code) (suc (u .0)) cb q (u .2 .1) in
         choose-else (ev L A e) (exs a) (exs (C.then s b)) (nodes e) (sizeOf a) (sizeOf (C.then s b)) p (t .0) (u .0) q (length ca + 1) (suc (length cb))
         (omega (arith, la)) (omega (arith, la)) (omega (arith, lb))
-        (cond L A small e false 0 431 p (t .0) (length ca + 1) w (omega arith) (t .1)) (I (t .0) (u .0) (u .1)) (u .2 .0) (J (suc (u .0)) q (u .2 .1))
+        (cond L A small e false 0 most-temporaries p (t .0) (length ca + 1) w (omega arith) (t .1)) (I (t .0) (u .0) (u .1)) (u .2 .0) (J (suc (u .0)) q (u .2 .1))
 
     mutual
       unfolding exec blockOf statement block size sizeOf Runs RunsAll
@@ -521,14 +521,14 @@ module _ (L : Linked) (A : Activation L) where
       pub stmt : (s : Stmt) (p q : ℕ) → Runs (L .functions) (S .elements) (A .N) s → size s ≤ C → At (S .code) p (statement (L .entry) (A .near) s) q → StmtIn (ex s) (size s) p q
       stmt (C.put x e) p q w h hc =
           let t = at-split (S .code) p (code (L .entry) (A .near) e 0) (fetch (placeOf e 0) 0 ++ (sw (source (placeOf e 0) 0) sp (4 * localWord x) ∷ [])) q hc in
-          put-in (ev L A e) x (nodes e) p (t .0) q (placeOf e 0) (fit-of L A e 0 431 (w .1) (omega arith)) (w .0) (expr L A small e 0 431 p (t .0) (w .1) (omega arith) (t .1)) (t .2)
+          put-in (ev L A e) x (nodes e) p (t .0) q (placeOf e 0) (fit-of L A e 0 most-temporaries (w .1) (omega arith)) (w .0) (expr L A small e 0 most-temporaries p (t .0) (w .1) (omega arith) (t .1)) (t .2)
       stmt (C.store a i e) p q w h hc =
           let d = above (placeOf i 0) 0 in
           let t = at-split (S .code) p (code (L .entry) (A .near) i 0) (code (L .entry) (A .near) e d ++ writing a (placeOf i 0) (placeOf e d)) q hc in
           let u = at-split (S .code) (t .0) (code (L .entry) (A .near) e d) (writing a (placeOf i 0) (placeOf e d)) q (t .2) in
-          let k = left-of L A i 0 431 (w .1) (omega arith) in
-          store-in (ev L A i) (ev L A e) a (nodes i) (nodes e) p (t .0) (u .0) q (placeOf i 0) (placeOf e d) (fit-of L A i 0 431 (w .1) (omega arith)) (fit-of L A e d 430 (w .2) k) (w .0)
-          (expr L A small i 0 431 p (t .0) (w .1) (omega arith) (t .1)) (expr L A small e d 430 (t .0) (u .0) (w .2) k (u .1)) (u .2)
+          let k = left-of L A i 0 most-temporaries (w .1) (omega arith) in
+          store-in (ev L A i) (ev L A e) a (nodes i) (nodes e) p (t .0) (u .0) q (placeOf i 0) (placeOf e d) (fit-of L A i 0 most-temporaries (w .1) (omega arith)) (fit-of L A e d (most-temporaries - 1) (w .2) k) (w .0)
+          (expr L A small i 0 most-temporaries p (t .0) (w .1) (omega arith) (t .1)) (expr L A small e d (most-temporaries - 1) (t .0) (u .0) (w .2) k (u .1)) (u .2)
       stmt (C.choose e a b) p q w h hc =
           if-in e a b p q (w .0) hc (λ r u c. blk a r u (w .1) (omega arith) c) (λ r u c. blk b r u (w .2) (omega arith) c)
       stmt (C.while e b) p q w h hc =
@@ -539,7 +539,7 @@ module _ (L : Linked) (A : Activation L) where
           let lc = at-len (S .code) p cc2 (t .0) (t .1) in
           let lb = at-len (S .code) (t .0) cb (u .0) (u .1) in
           while-in (ev L A e) (exs b) (nodes e) (sizeOf b) p (t .0) (u .0) q (suc (length cb)) (length cc2 + length cb) (omega arith) (omega (arith, lb)) (omega (arith, lb)) (omega (arith, lb, lc))
-          (sym (u .2 .1)) (cond L A small e false 0 431 p (t .0) (suc (length cb)) (w .0) (omega arith) (t .1)) (blk b (t .0) (u .0) (w .1) (omega arith) (u .1)) (u .2 .0)
+          (sym (u .2 .1)) (cond L A small e false 0 most-temporaries p (t .0) (suc (length cb)) (w .0) (omega arith) (t .1)) (blk b (t .0) (u .0) (w .1) (omega arith) (u .1)) (u .2 .0)
       stmt C.leave p q w h hc = leave-in p q hc
       stmt (C.give e) p q w h hc =
           let t = at-split (S .code) p (answering (L .entry) (A .near) e) leaving q hc in
@@ -550,7 +550,7 @@ module _ (L : Linked) (A : Activation L) where
       stmt (C.run f xs) p q w h hc =
           let t = at-split (S .code) p (codes (L .entry) (A .near) xs 0) (calling (L .entry f) (placesOf xs 0) 0) q hc in
           run-in (evs L A xs) f (nodesOf xs) p (t .0) q (placesOf xs 0) (w .0 .known) (places-count L A xs 0 ∙ w .0 .arity)
-          (let k = places-count L A xs 0 ∙ w .0 .arity in let s = small f (w .0 .known) in omega (arith, k, s)) (args L A small xs 0 431 p (t .0) (w .1) (omega arith) (t .1)) (t .2)
+          (let k = places-count L A xs 0 ∙ w .0 .arity in let s = small f (w .0 .known) in omega (arith, k, s)) (args L A small xs 0 most-temporaries p (t .0) (w .1) (omega arith) (t .1)) (t .2)
 
       pub blk : (b : Block) (p q : ℕ) → RunsAll (L .functions) (S .elements) (A .N) b → sizeOf b ≤ C → At (S .code) p (block (L .entry) (A .near) b) q → StmtIn (exs b) (sizeOf b) p q
       blk C.end p q w h hc = subst (λ (n : ℕ). StmtIn (exs C.end) 0 p n) hc (end-in p)

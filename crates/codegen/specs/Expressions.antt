@@ -1,4 +1,6 @@
 -- The code of expressions: as values, which are then at their places, and as conditions, which jump.
+-- In postfix order an item's code follows from the places of its operands and from what comes next: it is a condition where, behind the `!`s that follow it,
+-- a side of `&&` or `||` or a whole condition ends, and a value elsewhere. Jumps forward are filled in where they arrive.
 use Prim.Native.Nat.{ℕ, zero, suc, _+_, _-_, _*_, _^_}
 use mathlib.Core.Bool.{Bool, true, false}
 use mathlib.Core.Bool as B
