@@ -8,11 +8,11 @@ use lib.ListN.{length, getD}
 use Rattle.processor.specs.declared.Status.the-variants.{Going}
 use Rattle.processor.specs.Machine.{data-start}
 use Rattle.language.specs.Core.{Function}
-use Rattle.language.specs.Meaning.{World, Act, callAt}
+use Rattle.language.specs.Meaning.{World, Act, callAt, most-activations}
 use Rattle.symbolic.specs.Symbolic.{Fixed, Argument, Temporary, State, pos}
-use Rattle.codegen.specs.Places.{Place, constant, local, temporary, above, frame-bytes, localWord, temporaryWord, stack-start, stack-end}
+use Rattle.codegen.specs.Places.{Place, constant, local, temporary, above, frame-bytes, localWord, temporaryWord, stack-start, stack-end, most-temporaries, most-locals}
 use Rattle.codegen.specs.Operators.{stub, trapping}
-use Rattle.codegen.specs.Owed.{nothing}
+use Rattle.codegen.specs.Owed.{nothing, most-elements}
 use Rattle.codegen.proofs.Placement.{At}
 use Rattle.codegen.proofs.Logic.{K, C, Arrays, Setting, spent, Post, Sound}
 use Rattle.codegen.proofs.Frame.{Framed, Same, valueAt, There, Stable, value-same}
@@ -22,7 +22,7 @@ pub record Linked : Type 0 where
   pub setting : Setting
   pub entry : ℕ → ℕ
   pub functions : List Function
-  pub few : setting .elements ≤ 16384
+  pub few : setting .elements ≤ most-elements
   pub trap-1 : At (setting .code) (stub 1) (trapping 1) 9
   pub trap-2 : At (setting .code) (stub 2) (trapping 2) 12
   pub trap-3 : At (setting .code) (stub 3) (trapping 3) 15
@@ -81,9 +81,9 @@ pub record Activation (L : Linked) : Type 0 where
   pub R : ℕ
   pub left : ℕ
   pub m₀ : ℕ → ℕ
-  pub few : N ≤ 64
+  pub few : N ≤ most-locals
   pub room : B + frame-bytes * suc left ≡ stack-end
-  pub most : left < 64
+  pub most : left < most-activations
   pub under : CallIn L left
 
 module _ (L : Linked) (A : Activation L) where
@@ -146,7 +146,7 @@ module _ (L : Linked) (A : Activation L) where
   abbrev pub Fit : Place → ℕ → Type 0
   Fit (constant k) d = k < 2 ^ 32
   Fit (local y) d = y < A .N
-  Fit (temporary j) d = (j ≡ d) × (d < 431)
+  Fit (temporary j) d = (j ≡ d) × (d < most-temporaries)
 
   pub there : (pl : Place) (d : ℕ) → Fit pl d → There pl
   there (constant k) d h = h

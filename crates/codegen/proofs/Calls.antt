@@ -17,9 +17,9 @@ use Rattle.processor.specs.Execute.{aluOf}
 use Rattle.language.specs.Core.{Function}
 use Rattle.language.specs.Meaning.{World, Result, goes, stops, Act, callAt}
 use Rattle.symbolic.specs.Symbolic.{Fixed, Scratch, Argument, Temporary, Reg, reg, ra, sp, Instruction, opi, lw, sw, call, State, state, updated, set, value, pos, puts, stores}
-use Rattle.codegen.specs.Places.{Place, constant, local, temporary, inRegister, frame-bytes, localWord, temporaryWord, stack-start, stack-end, source, fetch}
+use Rattle.codegen.specs.Places.{Place, constant, local, temporary, inRegister, frame-bytes, localWord, temporaryWord, stack-start, stack-end, source, fetch, most-temporaries, in-registers}
 use Rattle.codegen.specs.Expressions.{passes, saves, loads, registersOf, returning, entering, calling}
-use Rattle.codegen.specs.Owed.{nothing}
+use Rattle.codegen.specs.Owed.{nothing, most-parameters}
 use Rattle.codegen.proofs.Placement.{At, at-split}
 use Rattle.codegen.proofs.Logic.{K, C, Arrays, Setting, Post, Sound, sound-rates, sound-then, sound-step, sound-end, sound-ran, Ran, ran-none, ran-step, ran-trans, ran-most}
 use Rattle.codegen.proofs.Numbers.{add-is, down}
@@ -77,7 +77,7 @@ module _ (L : Linked) (A : Activation L) where
     values : (j : ℕ) → j < length ps → τ .memory (B + (frame-bytes + 4 * localWord (i + j))) ≡ getD vs j 0
     other : (a : ℕ) → a < B + (frame-bytes + 4 * localWord i) → τ .memory a ≡ σ .memory a
 
-  passed : (ps : List Place) (vs : List ℕ) (i p q : ℕ) (σ : State) → i + length ps ≤ 8 → Held ps vs σ → σ .registers Fixed 1 ≡ B → At (S .code) p (passes ps i) q
+  passed : (ps : List Place) (vs : List ℕ) (i p q : ℕ) (σ : State) → i + length ps ≤ most-parameters → Held ps vs σ → σ .registers Fixed 1 ≡ B → At (S .code) p (passes ps i) q
       → σ .status ≡ Going → σ .pc ≡ p → (τ : State) × Ran S (3 * length ps) σ τ × Passed i ps vs q σ τ
   unfolding passes
   passed [] [] i p q σ hi h hs c on hp = (
@@ -149,7 +149,7 @@ module _ (L : Linked) (A : Activation L) where
       go (yes e) = subst Z (sym e) z
       go (no k) = h i (omega arith)
 
-  saved : (n p q : ℕ) (σ : State) → n ≤ 7 → σ .registers Fixed 1 ≡ B → At (S .code) p (saves n) q → σ .status ≡ Going → σ .pc ≡ p
+  saved : (n p q : ℕ) (σ : State) → n ≤ in-registers → σ .registers Fixed 1 ≡ B → At (S .code) p (saves n) q → σ .status ≡ Going → σ .pc ≡ p
       → (τ : State) × Ran S n σ τ × Saved n q σ τ
   unfolding saves
   saved zero p q σ hf hs c on hp =
@@ -184,7 +184,7 @@ module _ (L : Linked) (A : Activation L) where
     log : τ .log ≡ σ .log
     values : (i : ℕ) → i < n → τ .registers Temporary i ≡ σ .memory (slot i)
 
-  loaded : (n p q : ℕ) (σ : State) → n ≤ 7 → σ .registers Fixed 1 ≡ B → At (S .code) p (loads n) q → σ .status ≡ Going → σ .pc ≡ p
+  loaded : (n p q : ℕ) (σ : State) → n ≤ in-registers → σ .registers Fixed 1 ≡ B → At (S .code) p (loads n) q → σ .status ≡ Going → σ .pc ≡ p
       → (τ : State) × Ran S n σ τ × Loaded n q σ τ
   unfolding loads
   loaded zero p q σ hf hs c on hp =
@@ -213,10 +213,10 @@ module _ (L : Linked) (A : Activation L) where
                 (put-same Temporary n (τ .memory (slot n)) τ ∙ z .memory (slot n));
           }
 
-  registers-most : (d : ℕ) → (registersOf d ≤ d) × (registersOf d ≤ 7)
+  registers-most : (d : ℕ) → (registersOf d ≤ d) × (registersOf d ≤ in-registers)
   registers-most d = go (inRegister d) refl
     where
-      go : (t : Bool) → inRegister d ≡ t → (pick t d 7 ≤ d) × (pick t d 7 ≤ 7)
+      go : (t : Bool) → inRegister d ≡ t → (pick t d 7 ≤ d) × (pick t d 7 ≤ in-registers)
       go true e = let h : d < 7 = ltb-true d 7 e in (omega arith, omega arith)
       go false e = let h : 7 ≤ d = ltb-false d 7 e in (omega arith, omega arith)
 
@@ -248,7 +248,7 @@ module _ (L : Linked) (A : Activation L) where
     pub locals : ls ≡ ls₀
     pub less : w .fuel ≤ f
 
-  comes : (d r₀ r q v f : ℕ) (ls₀ ls : List ℕ) (w w2 : World) (τ ω ρ : State) → d ≤ 431 → Cor L A ls₀ w τ → ls ≡ ls₀ → Prepared d r₀ [] w τ ω
+  comes : (d r₀ r q v f : ℕ) (ls₀ ls : List ℕ) (w w2 : World) (τ ω ρ : State) → d ≤ most-temporaries → Cor L A ls₀ w τ → ls ≡ ls₀ → Prepared d r₀ [] w τ ω
       → At (S .code) r (returning d) q → Back (S .elements) (B + frame-bytes) r (ω .memory) f v w2 ρ
       → Sound S (goes v ls w2) (K * w2 .fuel + 10) (w2 .fuel) 0 (Returned τ d q ls₀ f) ρ
   comes d r₀ r q v f ls₀ ls w w2 τ ω ρ hd c he Y hc Z =
@@ -293,7 +293,7 @@ module _ (L : Linked) (A : Activation L) where
           spot j hj false e =
               ap (λ (t : Bool). valueBy t j B γ) e ∙ g .memory (slot j) ∙ Z .below (slot j) (omega (arith, high L A)) (omega arith) ∙ Y .slots j hj
 
-  enters : (f : ℕ) (vs : List ℕ) (d r q : ℕ) (ls : List ℕ) (w : World) (τ ω : State) → d ≤ 431 → Cor L A ls w τ → Prepared d r vs w τ ω
+  enters : (f : ℕ) (vs : List ℕ) (d r q : ℕ) (ls : List ℕ) (w : World) (τ ω : State) → d ≤ most-temporaries → Cor L A ls w τ → Prepared d r vs w τ ω
       → f < length (L .functions) → length vs ≡ getD (L .functions) f nothing .parameters → At (S .code) r (entering (L .entry f) d) q
       → Sound S (callAt (S .room) (L .functions) (A .left) f vs ls w) (K * w .fuel + 92) (w .fuel) 0 (Returned τ d q ls (w .fuel)) ω
   enters f vs d r q ls w τ ω hd c Y hf har hc =
@@ -322,8 +322,8 @@ module _ (L : Linked) (A : Activation L) where
       (record { on = Y .on; here = Y .here; fixed = Y .fixed; arguments = Y .arguments; log = Y .log; values = λ i k. absurd (omega arith); slots = Y .slots; low = Y .low })
       (hc .1 .1) (subst (λ (n : ℕ). Back (S .elements) n (suc (suc r)) (ω .memory) (w .fuel) v w2 ρ) sp-is (Z .0)))))
 
-  pub calls : (f : ℕ) (vs : List ℕ) (ps : List Place) (d p q : ℕ) (ls : List ℕ) (w : World) (τ : State) → d ≤ 431 → τ .status ≡ Going → τ .pc ≡ p → Cor L A ls w τ
-      → Held ps vs τ → f < length (L .functions) → length ps ≡ getD (L .functions) f nothing .parameters → length ps ≤ 8 → At (S .code) p (calling (L .entry f) ps d) q
+  pub calls : (f : ℕ) (vs : List ℕ) (ps : List Place) (d p q : ℕ) (ls : List ℕ) (w : World) (τ : State) → d ≤ most-temporaries → τ .status ≡ Going → τ .pc ≡ p → Cor L A ls w τ
+      → Held ps vs τ → f < length (L .functions) → length ps ≡ getD (L .functions) f nothing .parameters → length ps ≤ most-parameters → At (S .code) p (calling (L .entry f) ps d) q
       → Sound S (callAt (S .room) (L .functions) (A .left) f vs ls w) (K * w .fuel + 124) (w .fuel) 0 (Returned τ d q ls (w .fuel)) τ
   calls f vs ps d p q ls w τ hd on hp c held hf har few hc =
       let cm = registers-most d in

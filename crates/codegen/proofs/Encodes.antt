@@ -9,7 +9,7 @@ use lib.ListN.{length, length-append, getD}
 use borrow.Author.Tests.{ltb-true}
 use Rattle.language.specs.Core.{Function, Program}
 use Rattle.symbolic.specs.Symbolic.{Instruction}
-use Rattle.symbolic.specs.Fine.{Fine, AllFine}
+use Rattle.symbolic.specs.Fine.{Fine, AllFine, most-instructions}
 use Rattle.symbolic.proofs.AllFine.{fine-append}
 use Rattle.codegen.specs.Statements.{functionBy, nearIn, function}
 use Rattle.codegen.specs.Image.{starting, traps, functions-start, entryFrom, entryOf, functionsFrom, instructionsOf}
@@ -33,22 +33,22 @@ short-enough : (g : Function) → nearIn g ≡ true → length (functionBy (λ _
 unfolding nearIn
 short-enough g e = ltb-true _ _ e
 
-module _ (p : Program) (O : Owed p) (fits : length (instructionsOf p) ≤ 131072) where
-  total : functions-start + length (functionsFrom (entryOf p) (p .functions)) ≤ 131072
+module _ (p : Program) (O : Owed p) (fits : length (instructionsOf p) ≤ most-instructions) where
+  total : functions-start + length (functionsFrom (entryOf p) (p .functions)) ≤ most-instructions
   unfolding instructionsOf
   total =
       let a = length-append (starting (entryOf p (p .main))) (traps ++ functionsFrom (entryOf p) (p .functions)) in
       let b = length-append traps (functionsFrom (entryOf p) (p .functions)) in
       omega (arith, a, b, fits)
 
-  low : (f : ℕ) → entryOf p f ≤ 131072
+  low : (f : ℕ) → entryOf p f ≤ most-instructions
   low f = let a = entry-low (entryOf p) (p .functions) functions-start f in omega (arith, a, total)
 
-  fine-function : (g : Function) → Proper (p .functions) (p .elements) g → length (function (entryOf p) g) ≤ 131072 → AllFine (function (entryOf p) g)
+  fine-function : (g : Function) → Proper (p .functions) (p .elements) g → length (function (entryOf p) g) ≤ most-instructions → AllFine (function (entryOf p) g)
   unfolding function
   fine-function g P h = go (nearIn g) refl h
     where
-      reach : (t : Bool) → nearIn g ≡ t → length (functionBy (entryOf p) t g) ≤ 131072 → Within t (length (functionBy (entryOf p) t g))
+      reach : (t : Bool) → nearIn g ≡ t → length (functionBy (entryOf p) t g) ≤ most-instructions → Within t (length (functionBy (entryOf p) t g))
       reach true e h = let k = short-enough g e in let b = by-len true (entryOf p) (λ _. 0) g in omega (arith, k, b)
       reach false e h = h
 
@@ -56,7 +56,7 @@ module _ (p : Program) (O : Owed p) (fits : length (instructionsOf p) ≤ 131072
       go t e h =
           fine-by (p .functions) (p .elements) (O .few-elements) (entryOf p) (λ f k. low f) (λ f k. O .each f k .few) (g .parameters + g .lets) (P .locals) t g refl (P .body) (reach t e h)
 
-  fine-functions : (gs : List Function) → ((f : ℕ) → f < length gs → Proper (p .functions) (p .elements) (getD gs f nothing)) → length (functionsFrom (entryOf p) gs) ≤ 131072
+  fine-functions : (gs : List Function) → ((f : ℕ) → f < length gs → Proper (p .functions) (p .elements) (getD gs f nothing)) → length (functionsFrom (entryOf p) gs) ≤ most-instructions
       → AllFine (functionsFrom (entryOf p) gs)
   unfolding functionsFrom
   fine-functions [] h k = tt

@@ -22,17 +22,17 @@ use Rattle.language.specs.Core.{Array, Expr, Args}
 use Rattle.language.specs.Core as C
 use Rattle.language.specs.Meaning.{World, Result, goes, stops, Act, bind, begin, value as gives, branch, apply, operate, read, fetch as fetchLocal, callAt, eval, evals}
 use Rattle.symbolic.specs.Symbolic.{Fixed, Scratch, Argument, Temporary, Reg, x0, reg, answer, Instruction, opi, mv, jump, bad, State, value, goto, puts}
-use Rattle.codegen.specs.Places.{Place, constant, local, temporary, above, inRegister, source, fetch, target, keep, move}
-use Rattle.codegen.specs.Operators.{operating, result, applying, relation, comparing, testing, always, reading}
+use Rattle.codegen.specs.Places.{Place, constant, local, temporary, above, inRegister, source, fetch, target, keep, settle, move, most-temporaries}
+use Rattle.codegen.specs.Operators.{skip, sense, operating, result, applying, relation, comparing, testing, always, reading}
 use Rattle.codegen.specs.Expressions.{placeOf, placesOf, calling, decidingBy, code, codes, condition}
-use Rattle.codegen.specs.Owed.{nodes, nodesOf, count, nothing, Callable, Fits, FitsAll, Tests}
+use Rattle.codegen.specs.Owed.{nodes, nodesOf, count, nothing, Callable, Fits, FitsAll, Tests, most-parameters}
 use Rattle.codegen.proofs.Placement.{At, at-split, at-len}
 use Rattle.codegen.proofs.Logic.{K, Arrays, Setting, spent, Post, Sound, sound-rates, sound-bind, sound-bind′, sound-then, sound-then′, sound-post, sound-begin, sound-end, sound-pure, sound-ran, Ran, ran-none, ran-step, ran-trans, ran-most}
 use Rattle.codegen.proofs.Frame.{Same, only-same, same-join, valueAt, There, Stable, value-same}
-use Rattle.codegen.proofs.Macros.{fetch-ok, put-ok}
+use Rattle.codegen.proofs.Macros.{fetch-ok, put-ok, skip-ok}
 use Rattle.codegen.proofs.Elements.{same-goto}
 use Rattle.codegen.proofs.Activation.{Linked, Activation, framed, Cor, core-same, core-spent, ExprPost, Fit, there, stable, above-le, above-most, still, finish, aim, CondPost}
-use Rattle.codegen.proofs.Operators.{one-is, zero-is, apply-lt, aim-not, Ready, operates, applies, reads, tests, compares}
+use Rattle.codegen.proofs.Operators.{one-is, zero-is, apply-lt, aim-test, aim-not, Ready, operates, applies, reads, tests, compares}
 use Rattle.codegen.proofs.Calls.{Held, Returned, calls}
 
 -- the operators that are comparisons
@@ -87,7 +87,7 @@ module _ (L : Linked) (A : Activation L) where
         sound-end S (omega arith) (omega arith) (record { on = on; here = hp; cor = core-spent L A f c; is = c .locals x h; keep = λ j h. refl; locals = refl; less = omega arith }));
   }
 
-  element-in : (m : Act ℕ) (a : Array) (z d p r q : ℕ) (pl : Place) → Fit L A pl d → d < 431 → a .offset + a .size ≤ S .elements
+  element-in : (m : Act ℕ) (a : Array) (z d p r q : ℕ) (pl : Place) → Fit L A pl d → d < most-temporaries → a .offset + a .size ≤ S .elements
       → ExprIn m z d p r pl → At (S .code) r (reading a pl d) q
       → ExprIn (λ ls w. bind (begin ls w) (λ _ ls w. bind (m ls w) (λ k. read a k))) (suc z) d p q (temporary d)
   element-in m a z d p r q pl hf hd ha I hc = record {
@@ -97,7 +97,7 @@ module _ (L : Linked) (A : Activation L) where
         (reads L A a k d r q (w .fuel) pl ls ls2 w2 σ τ hd (there L A pl d hf) ha (ready (omega arith) Q) (Q .here) (Q .is) hc)));
   }
 
-  unary-in : (m : Act ℕ) (o : Unary) (z d p r q : ℕ) (pl : Place) → Fit L A pl d → d < 431
+  unary-in : (m : Act ℕ) (o : Unary) (z d p r q : ℕ) (pl : Place) → Fit L A pl d → d < most-temporaries
       → ExprIn m z d p r pl → At (S .code) r (applying o pl d) q
       → ExprIn (λ ls w. bind (begin ls w) (λ _ ls w. bind (m ls w) (λ x. gives (apply o x)))) (suc z) d p q (result o pl d)
   unary-in m o z d p r q pl hf hd I hc = record {
@@ -126,7 +126,7 @@ module _ (L : Linked) (A : Activation L) where
       })
       (Z .here) (still L A pa d x ls2 ls3 w2 w3 τ ρ fa (Q .is) (Q .cor) (Z .cor) (Z .locals) (Z .keep)) (Z .is))))
 
-  strict-in : (ma mb : Act ℕ) (o : Strict) (za zb d p r u q : ℕ) (pa pb : Place) → Fit L A pa d → Fit L A pb (above pa d) → d < 431
+  strict-in : (ma mb : Act ℕ) (o : Strict) (za zb d p r u q : ℕ) (pa pb : Place) → Fit L A pa d → Fit L A pb (above pa d) → d < most-temporaries
       → ExprIn ma za d p r pa → ExprIn mb zb (above pa d) r u pb → At (S .code) u (operating o pa pb d) q
       → ExprIn (λ ls w. bind (begin ls w) (λ _ ls w. bind (ma ls w) (λ x ls w. bind (mb ls w) (λ y. operate o x y)))) (suc (za + zb)) d p q (temporary d)
   strict-in ma mb o za zb d p r u q pa pb fa fb hd I J hc = record {
@@ -188,7 +188,7 @@ module _ (L : Linked) (A : Activation L) where
 
   -- a strict operator as a condition: a comparison, or its value is tested
   deciding-in : (ma mb : Act ℕ) (o : Strict) (s : Option (Cond × Bool)) (t : Bool) (za zb d p r u q k : ℕ) (pa pb : Place) → Law s o
-      → Fit L A pa d → Fit L A pb (above pa d) → d < 431
+      → Fit L A pa d → Fit L A pb (above pa d) → d < most-temporaries
       → ExprIn ma za d p r pa → ExprIn mb zb (above pa d) r u pb → At (S .code) u (decidingBy (L .entry) (A .near) s t o pa pb d k) q
       → CondIn (λ ls w. bind (begin ls w) (λ _ ls w. bind (ma ls w) (λ x ls w. bind (mb ls w) (λ y. operate o x y)))) (suc (za + zb)) t d p q k
   deciding-in ma mb o none t za zb d p r u q k pa pb e fa fb hd I J hc =
@@ -284,7 +284,7 @@ module _ (L : Linked) (A : Activation L) where
       go (suc x) ls ls2 w2 g f σ τ hg Q = decided false 1 d q k g ls ls2 w2 σ τ (Q .on) (Q .here ∙ (let y : r + n ≡ q = omega arith in y)) (Q .cor) (Q .keep) (Q .locals) (omega (arith, Q .less))
 
   -- a value comes to temporary d
-  copies : (pl : Place) (v d p q : ℕ) (ρ : State) → There pl → d < 431 → ρ .registers Fixed 1 ≡ B → ρ .status ≡ Going → ρ .pc ≡ p → valueAt pl B ρ ≡ v
+  copies : (pl : Place) (v d p q : ℕ) (ρ : State) → There pl → d < most-temporaries → ρ .registers Fixed 1 ≡ B → ρ .status ≡ Going → ρ .pc ≡ p → valueAt pl B ρ ≡ v
       → At (S .code) p (fetch pl 0 ++ (mv (target d) (source pl 0) ∷ keep d)) q → (τ : State) × Ran S 4 ρ τ × Same B d q ρ τ × (valueAt (temporary d) B τ ≡ v)
   copies pl v d p q ρ th hd hs on hp hv hc =
       let t = at-split (S .code) p (fetch pl 0) (mv (target d) (source pl 0) ∷ keep d) q hc in
@@ -293,7 +293,7 @@ module _ (L : Linked) (A : Activation L) where
       let g = put-ok S d v (t .0) q (mv (target d) (source pl 0)) (h .0) (framed L A) hd (G .fixed 1 ∙ hs) (t .2) (G .on) (G .here) (ap (λ (n : ℕ). puts (target d) n (h .0)) (h .3 ∙ hv)) in
       (g .0, ran-trans S (h .1) (g .1), same-join G (g .2), g .3)
 
-  moves : (pl : Place) (v d p q : ℕ) (ρ : State) → Fit L A pl d → d < 431 → ρ .registers Fixed 1 ≡ B → ρ .status ≡ Going → ρ .pc ≡ p → valueAt pl B ρ ≡ v
+  moves : (pl : Place) (v d p q : ℕ) (ρ : State) → Fit L A pl d → d < most-temporaries → ρ .registers Fixed 1 ≡ B → ρ .status ≡ Going → ρ .pc ≡ p → valueAt pl B ρ ≡ v
       → At (S .code) p (move pl d) q → (τ : State) × Ran S 4 ρ τ × Same B d q ρ τ × (valueAt (temporary d) B τ ≡ v)
   moves (temporary j) v d p q ρ hf hd hs on hp hv hc = (
     ρ,
@@ -304,9 +304,19 @@ module _ (L : Linked) (A : Activation L) where
   moves (constant n) v d p q ρ hf hd hs on hp hv hc = copies (constant n) v d p q ρ hf hd hs on hp hv hc
   moves (local y) v d p q ρ hf hd hs on hp hv hc = copies (local y) v d p q ρ (there L A (local y) d hf) hd hs on hp hv hc
 
-  -- the right side becomes the value
-  right-value : (mb : Act ℕ) (zb d r u q f : ℕ) (pl : Place) (ls₀ ls : List ℕ) (w : World) (σ τ : State) → Fit L A pl d → d < 431 → ExprIn mb zb d r u pl
-      → At (S .code) u (move pl d) q → τ .status ≡ Going → τ .pc ≡ r → Cor L A ls w τ
+  -- the left side has decided: 0 or 1 becomes the value
+  left-value : (v d p q f : ℕ) (ls₀ ls : List ℕ) (w : World) (σ τ : State) {zb : ℕ} → d < most-temporaries → aluOf Add 0 v ≡ v → At (S .code) p (settle v d) q
+      → τ .status ≡ Going → τ .pc ≡ p → Cor L A ls w τ
+      → ((j : ℕ) → j < d → valueAt (temporary j) B τ ≡ valueAt (temporary j) B σ) → ls ≡ ls₀ → w .fuel < f
+      → Sound S (goes v ls w) (K * w .fuel + 96) (w .fuel) zb (ExprPost L A σ d q (temporary d) ls₀ f) τ
+  left-value v d p q f ls₀ ls w σ τ hd hv hc on hp c hk he hl =
+      let h = put-ok S d v p q (opi Add (target d) x0 v) τ (framed L A) hd (c .sp-is) hc on hp (ap (λ (n : ℕ). puts (target d) n τ) hv) in
+      sound-ran S 2 (omega arith) (h .1)
+      (sound-end S (omega arith) (omega arith) (finish L A c (h .2) (h .3) hk he hl))
+
+  -- the right side becomes the value, and the other way is jumped over
+  right-over : (mb : Act ℕ) (zb d r u v q j f : ℕ) (pl : Place) (ls₀ ls : List ℕ) (w : World) (σ τ : State) → Fit L A pl d → d < most-temporaries → ExprIn mb zb d r u pl
+      → At (S .code) u (move pl d) v → getD (S .code) v bad ≡ jump j → v + j ≡ q → τ .status ≡ Going → τ .pc ≡ r → Cor L A ls w τ
       → ((j : ℕ) → j < d → valueAt (temporary j) B τ ≡ valueAt (temporary j) B σ) → ls ≡ ls₀ → w .fuel < f
       → Sound S (mb ls w) (K * w .fuel + 96) (w .fuel) zb (ExprPost L A σ d q (temporary d) ls₀ f) τ
   right-value mb zb d r u q f pl ls₀ ls w σ τ hf hd J hc on hp c hk he hl =
@@ -342,15 +352,15 @@ module _ (L : Linked) (A : Activation L) where
         (λ x ls2 w2 τ Q. go x ls ls2 w2 (w .fuel) f σ (h .0) τ (omega arith) (h .2) (h .3) Q)));
   }
     where
-      go : (x : ℕ) (ls ls2 : List ℕ) (w2 : World) (g f : ℕ) (σ τ₀ τ : State) → f ≤ g → Same B d r σ τ₀ → valueAt (temporary d) B τ₀ ≡ 0 → CondPost L A false τ₀ (suc d) s n ls f x ls2 w2 τ
+      go : (x : ℕ) (ls ls2 : List ℕ) (w2 : World) (g f : ℕ) (σ τ : State) → f ≤ g → CondPost L A false σ d s n ls f x ls2 w2 τ
           → Sound S (branch x mb (gives 0) ls2 w2) (K * w2 .fuel + 96) (w2 .fuel) zb (ExprPost L A σ d q (temporary d) ls g) τ
-      go zero ls ls2 w2 g f σ τ₀ τ hg G hv Q =
-          left-value 0 r d q g ls ls2 w2 σ τ₀ τ (Q .on) (Q .here ∙ (let y : s + n ≡ q = omega arith in y)) (Q .cor) hv G (Q .keep) (Q .locals) (omega (arith, Q .less))
-      go (suc x) ls ls2 w2 g f σ τ₀ τ hg G hv Q =
-          right-value mb zb d s u q g pl ls ls2 w2 σ τ hf hd J hc (Q .on) (Q .here) (Q .cor) (λ j k. Q .keep j (omega arith) ∙ value-same (temporary j) k G) (Q .locals) (omega (arith, Q .less))
+      go zero ls ls2 w2 g f σ τ hg Q =
+          left-value 0 d (suc v) q g ls ls2 w2 σ τ hd zero-is hc (Q .on) (Q .here ∙ (let y : s + n ≡ suc v = omega arith in y)) (Q .cor) (Q .keep) (Q .locals) (omega (arith, Q .less))
+      go (suc x) ls ls2 w2 g f σ τ hg Q =
+          right-over mb zb d s u v q j g pl ls ls2 w2 σ τ hf hd J hm hj hq (Q .on) (Q .here) (Q .cor) (Q .keep) (Q .locals) (omega (arith, Q .less))
 
-  or-in : (ma mb : Act ℕ) (za zb d p r s u q n : ℕ) (pl : Place) → Fit L A pl d → d < 431 → n ≡ q - s → s ≤ q
-      → At (S .code) p (opi Add (target d) x0 1 ∷ keep d) r → CondIn ma za true (suc d) r s n → ExprIn mb zb d s u pl → At (S .code) u (move pl d) q
+  or-in : (ma mb : Act ℕ) (za zb d p s u v q n j : ℕ) (pl : Place) → Fit L A pl d → d < most-temporaries → n ≡ suc (v - s) → s ≤ v → v + j ≡ q
+      → CondIn ma za true d p s n → ExprIn mb zb d s u pl → At (S .code) u (move pl d) v → getD (S .code) v bad ≡ jump j → At (S .code) (suc v) (settle 1 d) q
       → ExprIn (λ ls w. bind (begin ls w) (λ _ ls w. bind (ma ls w) (λ x. branch x (gives 1) mb))) (suc (za + zb)) d p q (temporary d)
   or-in ma mb za zb d p r s u q n pl hf hd hn hs hk I J hc = record {
     run = λ ls w σ on hp c. sound-begin S ls w _ on (c .log-is) (λ f e.
@@ -360,12 +370,12 @@ module _ (L : Linked) (A : Activation L) where
         (λ x ls2 w2 τ Q. go x ls ls2 w2 (w .fuel) f σ (h .0) τ (omega arith) (h .2) (h .3) Q)));
   }
     where
-      go : (x : ℕ) (ls ls2 : List ℕ) (w2 : World) (g f : ℕ) (σ τ₀ τ : State) → f ≤ g → Same B d r σ τ₀ → valueAt (temporary d) B τ₀ ≡ 1 → CondPost L A true τ₀ (suc d) s n ls f x ls2 w2 τ
+      go : (x : ℕ) (ls ls2 : List ℕ) (w2 : World) (g f : ℕ) (σ τ : State) → f ≤ g → CondPost L A true σ d s n ls f x ls2 w2 τ
           → Sound S (branch x (gives 1) mb ls2 w2) (K * w2 .fuel + 96) (w2 .fuel) zb (ExprPost L A σ d q (temporary d) ls g) τ
-      go zero ls ls2 w2 g f σ τ₀ τ hg G hv Q =
-          right-value mb zb d s u q g pl ls ls2 w2 σ τ hf hd J hc (Q .on) (Q .here) (Q .cor) (λ j k. Q .keep j (omega arith) ∙ value-same (temporary j) k G) (Q .locals) (omega (arith, Q .less))
-      go (suc x) ls ls2 w2 g f σ τ₀ τ hg G hv Q =
-          left-value 1 r d q g ls ls2 w2 σ τ₀ τ (Q .on) (Q .here ∙ (let y : s + n ≡ q = omega arith in y)) (Q .cor) hv G (Q .keep) (Q .locals) (omega (arith, Q .less))
+      go zero ls ls2 w2 g f σ τ hg Q =
+          right-over mb zb d s u v q j g pl ls ls2 w2 σ τ hf hd J hm hj hq (Q .on) (Q .here) (Q .cor) (Q .keep) (Q .locals) (omega (arith, Q .less))
+      go (suc x) ls ls2 w2 g f σ τ hg Q =
+          left-value 1 d (suc v) q g ls ls2 w2 σ τ hd one-is hc (Q .on) (Q .here ∙ (let y : s + n ≡ suc v = omega arith in y)) (Q .cor) (Q .keep) (Q .locals) (omega (arith, Q .less))
 
   -- Arguments: each value is at its place, and stays there while the others' code runs.
 
@@ -406,7 +416,7 @@ module _ (L : Linked) (A : Activation L) where
   }
 
   -- a call, and its result
-  call-in : (m : Act (List ℕ)) (f z d p r s q : ℕ) (ps : List Place) → d < 431 → f < length (L .functions) → length ps ≡ getD (L .functions) f nothing .parameters → length ps ≤ 8
+  call-in : (m : Act (List ℕ)) (f z d p r s q : ℕ) (ps : List Place) → d < most-temporaries → f < length (L .functions) → length ps ≡ getD (L .functions) f nothing .parameters → length ps ≤ most-parameters
       → ArgsIn m z d p r ps → At (S .code) r (calling (L .entry f) ps d) s → At (S .code) s (mv (target d) answer ∷ keep d) q
       → ExprIn (λ ls w. bind (begin ls w) (λ _ ls w. bind (m ls w) (λ vs. callAt (S .room) (L .functions) (A .left) f vs))) (suc z) d p q (temporary d)
   call-in m f z d p r s q ps hd hf har few I hc hm = record {
@@ -423,12 +433,12 @@ module _ (L : Linked) (A : Activation L) where
   -- The induction.
 
   -- the place of a well-formed expression
-  fit-result : (o : Unary) (pl : Place) (d : ℕ) → d < 431 → Fit L A (result o pl d) d
+  fit-result : (o : Unary) (pl : Place) (d : ℕ) → d < most-temporaries → Fit L A (result o pl d) d
   fit-result o (constant n) d h = apply-lt o n
   fit-result o (local y) d h = (refl, h)
   fit-result o (temporary j) d h = (refl, h)
 
-  pub fit-of : (e : Expr) (d m : ℕ) → Fits (L .functions) (S .elements) (A .N) e m → d + m ≤ 431 → Fit L A (placeOf e d) d
+  pub fit-of : (e : Expr) (d m : ℕ) → Fits (L .functions) (S .elements) (A .N) e m → d + m ≤ most-temporaries → Fit L A (placeOf e d) d
   unfolding Fits placeOf
   fit-of (C.number n) d m w h = w
   fit-of (C.local x) d m w h = w
@@ -445,7 +455,7 @@ module _ (L : Linked) (A : Activation L) where
   above-result o (temporary j) d = omega arith
 
   -- the temporaries that are left for what follows
-  pub left-of : (e : Expr) (d m : ℕ) → Fits (L .functions) (S .elements) (A .N) e m → d + m ≤ 431 → above (placeOf e d) d + (m - 1) ≤ 431
+  pub left-of : (e : Expr) (d m : ℕ) → Fits (L .functions) (S .elements) (A .N) e m → d + m ≤ most-temporaries → above (placeOf e d) d + (m - 1) ≤ most-temporaries
   unfolding Fits placeOf
   left-of (C.number n) d m w h = omega arith
   left-of (C.local x) d m w h = omega arith
@@ -468,11 +478,11 @@ module _ (L : Linked) (A : Activation L) where
   evs xs = evals (S .room) (callAt (S .room) (L .functions) (A .left)) xs
 
   -- every function takes at most 8 arguments
-  module _ (small : (f : ℕ) → f < length (L .functions) → getD (L .functions) f nothing .parameters ≤ 8) where
+  module _ (small : (f : ℕ) → f < length (L .functions) → getD (L .functions) f nothing .parameters ≤ most-parameters) where
     mutual
       unfolding eval evals code codes condition placeOf placesOf nodes nodesOf Fits FitsAll Tests
 
-      pub expr : (e : Expr) (d m p q : ℕ) → Fits (L .functions) (S .elements) (A .N) e m → d + m ≤ 431 → At (S .code) p (code (L .entry) (A .near) e d) q
+      pub expr : (e : Expr) (d m p q : ℕ) → Fits (L .functions) (S .elements) (A .N) e m → d + m ≤ most-temporaries → At (S .code) p (code (L .entry) (A .near) e d) q
           → ExprIn (ev e) (nodes e) d p q (placeOf e d)
       expr (C.number n) d m p q w h hc = subst (λ (k : ℕ). ExprIn (ev (C.number n)) 1 d p k (constant n)) hc (number-in n d p)
       expr (C.local x) d m p q w h hc = subst (λ (k : ℕ). ExprIn (ev (C.local x)) 1 d p k (local x)) hc (local-in x d p w)
@@ -496,22 +506,28 @@ module _ (L : Linked) (A : Activation L) where
           (expr a d m p (t .0) (w .1) h (t .1)) (expr b d2 (m - 1) (t .0) (u .0) (w .2) k (u .1)) (u .2)
       expr (C.and a b) d m p q w h hc =
           let rest = code (L .entry) (A .near) b d ++ move (placeOf b d) d in
-          let t = at-split (S .code) (suc p) (keep d) (condition (L .entry) (A .near) a false (suc d) (length rest) ++ rest) q (hc .1) in
-          let u = at-split (S .code) (t .0) (condition (L .entry) (A .near) a false (suc d) (length rest)) rest q (t .2) in
-          let v = at-split (S .code) (u .0) (code (L .entry) (A .near) b d) (move (placeOf b d) d) q (u .2) in
-          let len = at-len (S .code) (u .0) rest q (u .2) in
-          and-in (ev a) (ev b) (nodes a) (nodes b) d p (t .0) (u .0) (v .0) q (length rest) (placeOf b d) (fit-of b d m (w .2) h) (omega (arith, w .0)) (omega (arith, len)) (omega (arith, len))
-          (hc .0, t .1) (cond a false (suc d) (m - 1) (t .0) (u .0) (length rest) (w .1) (omega (arith, w .0)) (u .1)) (expr b d m (u .0) (v .0) (w .2) h (v .1)) (v .2)
+          let other = jump (suc (length (settle 0 d))) ∷ settle 0 d in
+          let t = at-split (S .code) p (condition (L .entry) (A .near) a false d (suc (length rest))) (rest ++ other) q hc in
+          let u = at-split (S .code) (t .0) rest other q (t .2) in
+          let v = at-split (S .code) (t .0) (code (L .entry) (A .near) b d) (move (placeOf b d) d) (u .0) (u .1) in
+          let len = at-len (S .code) (t .0) rest (u .0) (u .1) in
+          let end = at-len (S .code) (suc (u .0)) (settle 0 d) q (u .2 .1) in
+          and-in (ev a) (ev b) (nodes a) (nodes b) d p (t .0) (v .0) (u .0) q (suc (length rest)) (suc (length (settle 0 d))) (placeOf b d) (fit-of b d m (w .2) h) (omega (arith, w .0))
+          (omega (arith, len)) (omega (arith, len)) (omega (arith, end))
+          (cond a false d (m - 1) p (t .0) (suc (length rest)) (w .1) (omega arith) (t .1)) (expr b d m (t .0) (v .0) (w .2) h (v .1)) (v .2) (u .2 .0) (u .2 .1)
       expr (C.or a b) d m p q w h hc =
           let rest = code (L .entry) (A .near) b d ++ move (placeOf b d) d in
-          let t = at-split (S .code) (suc p) (keep d) (condition (L .entry) (A .near) a true (suc d) (length rest) ++ rest) q (hc .1) in
-          let u = at-split (S .code) (t .0) (condition (L .entry) (A .near) a true (suc d) (length rest)) rest q (t .2) in
-          let v = at-split (S .code) (u .0) (code (L .entry) (A .near) b d) (move (placeOf b d) d) q (u .2) in
-          let len = at-len (S .code) (u .0) rest q (u .2) in
-          or-in (ev a) (ev b) (nodes a) (nodes b) d p (t .0) (u .0) (v .0) q (length rest) (placeOf b d) (fit-of b d m (w .2) h) (omega (arith, w .0)) (omega (arith, len)) (omega (arith, len))
-          (hc .0, t .1) (cond a true (suc d) (m - 1) (t .0) (u .0) (length rest) (w .1) (omega (arith, w .0)) (u .1)) (expr b d m (u .0) (v .0) (w .2) h (v .1)) (v .2)
+          let other = jump (suc (length (settle 1 d))) ∷ settle 1 d in
+          let t = at-split (S .code) p (condition (L .entry) (A .near) a true d (suc (length rest))) (rest ++ other) q hc in
+          let u = at-split (S .code) (t .0) rest other q (t .2) in
+          let v = at-split (S .code) (t .0) (code (L .entry) (A .near) b d) (move (placeOf b d) d) (u .0) (u .1) in
+          let len = at-len (S .code) (t .0) rest (u .0) (u .1) in
+          let end = at-len (S .code) (suc (u .0)) (settle 1 d) q (u .2 .1) in
+          or-in (ev a) (ev b) (nodes a) (nodes b) d p (t .0) (v .0) (u .0) q (suc (length rest)) (suc (length (settle 1 d))) (placeOf b d) (fit-of b d m (w .2) h) (omega (arith, w .0))
+          (omega (arith, len)) (omega (arith, len)) (omega (arith, end))
+          (cond a true d (m - 1) p (t .0) (suc (length rest)) (w .1) (omega arith) (t .1)) (expr b d m (t .0) (v .0) (w .2) h (v .1)) (v .2) (u .2 .0) (u .2 .1)
 
-      pub args : (xs : Args) (d m p q : ℕ) → FitsAll (L .functions) (S .elements) (A .N) xs m → d + m ≤ 431 → At (S .code) p (codes (L .entry) (A .near) xs d) q
+      pub args : (xs : Args) (d m p q : ℕ) → FitsAll (L .functions) (S .elements) (A .N) xs m → d + m ≤ most-temporaries → At (S .code) p (codes (L .entry) (A .near) xs d) q
           → ArgsIn (evs xs) (nodesOf xs) d p q (placesOf xs d)
       args C.none d m p q w h hc = subst (λ (k : ℕ). ArgsIn (evs C.none) 0 d p k []) hc (none-in d p)
       args (C.more e xs) d m p q w h hc =
@@ -520,7 +536,7 @@ module _ (L : Linked) (A : Activation L) where
           more-in (ev e) (evs xs) (nodes e) (nodesOf xs) d p (t .0) q (placeOf e d) (placesOf xs d2) (fit-of e d m (w .0) h)
           (expr e d m p (t .0) (w .0) h (t .1)) (args xs d2 (m - 1) (t .0) q (w .1) (left-of e d m (w .0) h) (t .2))
 
-      pub cond : (e : Expr) (t : Bool) (d m p q k : ℕ) → Tests (L .functions) (S .elements) (A .N) e m → d + m ≤ 431 → At (S .code) p (condition (L .entry) (A .near) e t d k) q
+      pub cond : (e : Expr) (t : Bool) (d m p q k : ℕ) → Tests (L .functions) (S .elements) (A .N) e m → d + m ≤ most-temporaries → At (S .code) p (condition (L .entry) (A .near) e t d k) q
           → CondIn (ev e) (nodes e) t d p q k
       cond (C.number n) s d m p q k w h hc = always-in n d p q k s hc
       cond (C.local x) s d m p q k w h hc = test-in (ev (C.local x)) s 1 d p p q k (local x) w (local-in x d p w) hc
@@ -530,12 +546,11 @@ module _ (L : Linked) (A : Activation L) where
           test-in (ev (C.element a i)) s (suc (nodes i)) d p (u .0) q k (temporary d) (refl, omega (arith, w .0))
           (element-in (ev i) a (nodes i) d p (t .0) (u .0) (placeOf i d) (fit-of i d m (w .2) h) (omega (arith, w .0)) (w .1) (expr i d m p (t .0) (w .2) h (t .1)) (u .1)) (u .2)
       cond (C.call f xs) s d m p q k w h hc =
-          let t = at-split (S .code) p (codes (L .entry) (A .near) xs d) (calling (L .entry f) (placesOf xs d) d ++ (mv (target d) answer ∷ (keep d ++ testing (A .near) s (temporary d) k))) q hc in
-          let u = at-split (S .code) (t .0) (calling (L .entry f) (placesOf xs d) d) (mv (target d) answer ∷ (keep d ++ testing (A .near) s (temporary d) k)) q (t .2) in
-          let v = at-split (S .code) (suc (u .0)) (keep d) (testing (A .near) s (temporary d) k) q (u .2 .1) in
-          test-in (ev (C.call f xs)) s (suc (nodesOf xs)) d p (v .0) q k (temporary d) (refl, omega (arith, w .0))
-          (call-in (evs xs) f (nodesOf xs) d p (t .0) (u .0) (v .0) (placesOf xs d) (omega (arith, w .0)) (w .1 .known) (places-count xs d ∙ w .1 .arity)
-          (let k = places-count xs d ∙ w .1 .arity in let s = small f (w .1 .known) in omega (arith, k, s)) (args xs d m p (t .0) (w .2) h (t .1)) (u .1) (u .2 .0, v .1)) (v .2)
+          let last = skip (A .near) (sense s Ne) answer x0 k in
+          let t = at-split (S .code) p (codes (L .entry) (A .near) xs d) (calling (L .entry f) (placesOf xs d) d ++ last) q hc in
+          let u = at-split (S .code) (t .0) (calling (L .entry f) (placesOf xs d) d) last q (t .2) in
+          tested-call (evs xs) f s (nodesOf xs) d p (t .0) (u .0) q k (placesOf xs d) (omega (arith, w .0)) (w .1 .known) (places-count xs d ∙ w .1 .arity)
+          (let k = places-count xs d ∙ w .1 .arity in let s = small f (w .1 .known) in omega (arith, k, s)) (args xs d m p (t .0) (w .2) h (t .1)) (u .1) (u .2)
       cond (C.unary T.not e) s d m p q k w h hc = not-in (ev e) s (nodes e) d p q k (cond e (B2.not s) d m p q k w h hc)
       cond (C.unary T.negate e) s d m p q k w h hc =
           let t = at-split (S .code) p (code (L .entry) (A .near) e d) (applying T.negate (placeOf e d) d ++ testing (A .near) s (result T.negate (placeOf e d) d) k) q hc in

@@ -14,7 +14,7 @@ use Rattle.processor.specs.declared.Status.the-variants.{Going, Fault}
 use Rattle.processor.specs.declared.Width.the-variants.{Word}
 use Rattle.processor.specs.Execute.{reaches}
 use Rattle.symbolic.specs.Symbolic.{Bank, Fixed, Scratch, Argument, Temporary, first, Reg, x0, reg, sp, scratch, lw, sw, State, state, updated, get, value, quit, puts, stores, exec1}
-use Rattle.codegen.specs.Places.{Place, constant, local, temporary, inRegister, localWord, temporaryWord, source, target}
+use Rattle.codegen.specs.Places.{Place, constant, local, temporary, inRegister, localWord, temporaryWord, source, target, most-temporaries, most-locals}
 use Rattle.codegen.proofs.Numbers.{add-is, in-data}
 
 pub updated-same : {A : Type 0} (f : ℕ → A) (k : ℕ) (v : A) → updated f k v k ≡ v
@@ -121,12 +121,12 @@ valueAt (temporary d) B σ = valueBy (inRegister d) d B σ
 -- a place that is there, and one that code leaves where d temporaries are in use
 abbrev pub There : Place → Type 0
 There (constant n) = n < 2 ^ 32
-There (local y) = y < 64
-There (temporary d) = d < 431
+There (local y) = y < most-locals
+There (temporary d) = d < most-temporaries
 
 abbrev pub Stable : Place → ℕ → Type 0
 Stable (constant n) d = Unit {0}
-Stable (local y) d = y < 64
+Stable (local y) d = y < most-locals
 Stable (temporary j) d = j < d
 
 pub value-same : {B d q : ℕ} {σ τ : State} (p : Place) → Stable p d → Same B d q σ τ → valueAt p B τ ≡ valueAt p B σ

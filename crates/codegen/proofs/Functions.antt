@@ -15,9 +15,9 @@ use Rattle.processor.specs.declared.Alu.the-variants.{Add}
 use Rattle.processor.specs.declared.Cond.the-variants.{Ne}
 use Rattle.processor.specs.Execute.{condOf}
 use Rattle.language.specs.Core.{Function}
-use Rattle.language.specs.Meaning.{World, Result, goes, stops, trapped, Act, bind, Flow, next, returned, result, back, callAt}
+use Rattle.language.specs.Meaning.{World, Result, goes, stops, trapped, Act, bind, Flow, next, returned, result, back, callAt, most-activations}
 use Rattle.symbolic.specs.Symbolic.{Fixed, Argument, Temporary, Registers, x0, ra, sp, answer, Instruction, opi, sw, branch, call, State, updated, value, pos, goto, puts, stores, exec1}
-use Rattle.codegen.specs.Places.{frame-bytes, localWord, stack-start, stack-end}
+use Rattle.codegen.specs.Places.{frame-bytes, localWord, stack-start, stack-end, most-locals}
 use Rattle.codegen.specs.Operators.{stub}
 use Rattle.codegen.specs.Statements.{limit, leaving, block, clears, functionBy, nearIn, function}
 use Rattle.codegen.specs.Owed.{nothing, sizeOf, RunsAll, Proper}
@@ -67,7 +67,7 @@ module _ (L : Linked) where
     values : (i : ℕ) → i < n → τ .memory (B + 4 * localWord (first + i)) ≡ 0
     other : (a : ℕ) → ((i : ℕ) → i < n → a ≡ B + 4 * localWord (first + i) → ⊥) → τ .memory a ≡ σ .memory a
 
-  cleared : (B first n p q : ℕ) (σ : State) → Framed B → first + n ≤ 64 → σ .registers Fixed 1 ≡ B → At (S .code) p (clears first n) q → σ .status ≡ Going → σ .pc ≡ p
+  cleared : (B first n p q : ℕ) (σ : State) → Framed B → first + n ≤ most-locals → σ .registers Fixed 1 ≡ B → At (S .code) p (clears first n) q → σ .status ≡ Going → σ .pc ≡ p
       → (τ : State) × Ran S n σ τ × Cleared B first n q σ τ
   unfolding clears
   cleared B first zero p q σ F hf hs c on hp =
@@ -188,7 +188,7 @@ module _ (L : Linked) where
             (sound-end S (omega arith) (omega arith) (h .2, refl))
         ends (returned v) ls2 w2 τ r q hc Z = sound-end S (omega arith) (omega arith) (Z, refl)
 
-    pub called : (left : ℕ) → left ≤ 64 → CallIn L left
+    pub called : (left : ℕ) → left ≤ most-activations → CallIn L left
     called zero h = record { run = full }
     called (suc left) h = record {
       run = λ f vs ls w R σ E.

@@ -14,10 +14,10 @@ use Rattle.language.specs.Tree as T
 use Rattle.language.specs.Core.{Expr, Args, Stmt, Block, Function}
 use Rattle.language.specs.Core as C
 use Rattle.symbolic.specs.Symbolic.{Reg, Instruction, opi, mv, sw, sp, answer, x0, jump, jumpBack, ecall}
-use Rattle.codegen.specs.Places.{Place, local, temporary, above, localWord, fetch, target, keep, move, bring, source}
+use Rattle.codegen.specs.Places.{Place, local, temporary, above, localWord, fetch, target, keep, settle, move, bring, source}
 use Rattle.codegen.specs.Operators.{skip, operating, applying, result, relation, sense, left, right, comparing, testing, always, reading, writing}
 use Rattle.codegen.specs.Expressions.{placeOf, placesOf, passes, saves, entering, calling, registersOf, decidingBy, code, codes, condition}
-use Rattle.codegen.specs.Statements.{over, otherwise, leaving, statement, block, clears, functionBy, nearIn, function}
+use Rattle.codegen.specs.Statements.{over, otherwise, leaving, brought, answering, statement, block, clears, functionBy, nearIn, function}
 
 -- two pieces of one length
 pub record Len (a b : List Instruction) : Type 0 where
@@ -66,13 +66,11 @@ module _ (near : Bool) (e e′ : ℕ → ℕ) where
     code-len (C.strict o a b) d =
         joins (code-len a d) (joins (code-len b (above (placeOf a d) d)) (same (operating o (placeOf a d) (placeOf b (above (placeOf a d) d)) d)))
     code-len (C.and a b) d =
-        puts-before (opi Add (target d) x0 0) (opi Add (target d) x0 0) (joins (same (keep d)) (joins
-        (condition-len a false (suc d) (length (code e near b d ++ move (placeOf b d) d)) (length (code e′ near b d ++ move (placeOf b d) d)))
-        (joins (code-len b d) (same (move (placeOf b d) d)))))
+        joins (condition-len a false d (suc (length (code e near b d ++ move (placeOf b d) d))) (suc (length (code e′ near b d ++ move (placeOf b d) d))))
+        (joins (joins (code-len b d) (same (move (placeOf b d) d))) (same (jump (suc (length (settle 0 d))) ∷ settle 0 d)))
     code-len (C.or a b) d =
-        puts-before (opi Add (target d) x0 1) (opi Add (target d) x0 1) (joins (same (keep d)) (joins
-        (condition-len a true (suc d) (length (code e near b d ++ move (placeOf b d) d)) (length (code e′ near b d ++ move (placeOf b d) d)))
-        (joins (code-len b d) (same (move (placeOf b d) d)))))
+        joins (condition-len a true d (suc (length (code e near b d ++ move (placeOf b d) d))) (suc (length (code e′ near b d ++ move (placeOf b d) d))))
+        (joins (joins (code-len b d) (same (move (placeOf b d) d))) (same (jump (suc (length (settle 1 d))) ∷ settle 1 d)))
 
     pub codes-len : (xs : Args) (d : ℕ) → Len (codes e near xs d) (codes e′ near xs d)
     codes-len C.none d = same []
@@ -83,7 +81,7 @@ module _ (near : Bool) (e e′ : ℕ → ℕ) where
     condition-len (C.local x) t d k k′ = testing-len t (local x) k k′
     condition-len (C.element a i) t d k k′ = joins (code-len i d) (joins (same (reading a (placeOf i d) d)) (testing-len t (temporary d) k k′))
     condition-len (C.call f xs) t d k k′ =
-        joins (codes-len xs d) (joins (calling-len f (placesOf xs d) d) (puts-before (mv (target d) answer) (mv (target d) answer) (joins (same (keep d)) (testing-len t (temporary d) k k′))))
+        joins (codes-len xs d) (joins (calling-len f (placesOf xs d) d) (skip-len near (sense t Ne) answer x0 k k′))
     condition-len (C.unary T.not x) t d k k′ = condition-len x (B2.not t) d k k′
     condition-len (C.unary T.negate x) t d k k′ =
         joins (code-len x d) (joins (same (applying T.negate (placeOf x d) d)) (testing-len t (result T.negate (placeOf x d) d) k k′))
@@ -97,6 +95,20 @@ module _ (near : Bool) (e e′ : ℕ → ℕ) where
         joins (condition-len a true d (length (condition e near b true d k) + k) (length (condition e′ near b true d k′) + k′)) (condition-len b true d k k′)
     condition-len (C.or a b) false d k k′ =
         joins (condition-len a true d (length (condition e near b false d k)) (length (condition e′ near b false d k′))) (condition-len b false d k k′)
+
+  brought-len : (x : Expr) → Len (brought e near x) (brought e′ near x)
+  brought-len x = joins (code-len x 0) (same (bring (placeOf x 0)))
+
+  answering-len : (x : Expr) → Len (answering e near x) (answering e′ near x)
+  unfolding answering
+  answering-len (C.call f xs) = joins (codes-len xs 0) (calling-len f (placesOf xs 0) 0)
+  answering-len (C.number n) = brought-len (C.number n)
+  answering-len (C.local x) = brought-len (C.local x)
+  answering-len (C.element a i) = brought-len (C.element a i)
+  answering-len (C.unary o x) = brought-len (C.unary o x)
+  answering-len (C.strict o a b) = brought-len (C.strict o a b)
+  answering-len (C.and a b) = brought-len (C.and a b)
+  answering-len (C.or a b) = brought-len (C.or a b)
 
   otherwise-len : (b : Block) (c c′ : List Instruction) → Len c c′ → Len (otherwise b c) (otherwise b c′)
   otherwise-len C.end c c′ h = same []
@@ -117,8 +129,8 @@ module _ (near : Bool) (e e′ : ℕ → ℕ) where
         (joins (block-len b) (puts-before (jumpBack (length (condition e near x false 0 (suc (length (block e near b)))) + length (block e near b)))
         (jumpBack (length (condition e′ near x false 0 (suc (length (block e′ near b)))) + length (block e′ near b))) (same [])))
     statement-len C.leave = same (opi Add answer x0 0 ∷ leaving)
-    statement-len (C.give v) = joins (code-len v 0) (same (bring (placeOf v 0) ++ leaving))
-    statement-len (C.emit v) = joins (code-len v 0) (same (bring (placeOf v 0) ++ (ecall ∷ [])))
+    statement-len (C.give v) = joins (answering-len v) (same leaving)
+    statement-len (C.emit v) = joins (answering-len v) (same (ecall ∷ []))
     statement-len (C.run f xs) = joins (codes-len xs 0) (calling-len f (placesOf xs 0) 0)
 
     pub block-len : (b : Block) → Len (block e near b) (block e′ near b)

@@ -17,3 +17,4 @@ pub mod Ranges
 pub mod Reaches
 pub mod Encodes
 pub mod Whole
+pub mod Theorem

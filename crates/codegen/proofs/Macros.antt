@@ -22,7 +22,7 @@ use Rattle.processor.specs.Machine.{data-start}
 use Rattle.language.specs.Core.{Array}
 use Rattle.language.specs.Meaning.{World, Stop, trapped, outOfFuel, Result, goes, stops, Act}
 use Rattle.symbolic.specs.Symbolic.{Bank, Fixed, Scratch, Argument, Temporary, first, Reg, x0, reg, ra, sp, answer, request, scratch, Instruction, lui, opi, shift, mv, op, lw, sw, branch, jump, call, ecall, bad, State, state, updated, get, set, value, pos, quit, goto, puts, stores, ecallOf, exec1}
-use Rattle.codegen.specs.Places.{Place, constant, local, temporary, inRegister, localWord, temporaryWord, short, upperOf, lowerOf, constantBy, constantTo, source, fetch, target, keep, bring}
+use Rattle.codegen.specs.Places.{Place, constant, local, temporary, inRegister, localWord, temporaryWord, short, upperOf, lowerOf, constantBy, constantTo, source, fetch, target, keep, bring, most-temporaries}
 use Rattle.codegen.specs.Operators.{stub, trapping, opposite, skip, address, inside, index, locateBy, locate, offset}
 use Rattle.codegen.proofs.Placement.{At, at-split, at-len}
 use Rattle.codegen.proofs.Logic.{K, C, Arrays, Setting, Post, Sound, Halt, sound-stop, sound-ran, Ran, ran-none, ran-step, ran-trans, ran-most}
@@ -143,7 +143,7 @@ module _ (S : Setting) where
       go false = put-same Scratch 0 v σ
 
   -- what is in the register of temporary d is kept
-  pub keep-ok : {B : ℕ} (d v p q : ℕ) (σ : State) → Framed B → d < 431 → σ .registers Fixed 1 ≡ B → At (S .code) p (keep d) q
+  pub keep-ok : {B : ℕ} (d v p q : ℕ) (σ : State) → Framed B → d < most-temporaries → σ .registers Fixed 1 ≡ B → At (S .code) p (keep d) q
       → σ .status ≡ Going → σ .pc ≡ p → value σ (target d) ≡ v
       → (τ : State) × Ran S 1 σ τ × Same B d q σ τ × (valueAt (temporary d) B τ ≡ v)
   keep-ok {B} d v p q σ F hd hs c on hp hv = go (inRegister d) c hv
@@ -167,7 +167,7 @@ module _ (S : Setting) where
       )
 
   -- an instruction gives temporary d its value
-  pub put-ok : {B : ℕ} (d v p q : ℕ) (i : Instruction) (σ : State) → Framed B → d < 431 → σ .registers Fixed 1 ≡ B → At (S .code) p (i ∷ keep d) q
+  pub put-ok : {B : ℕ} (d v p q : ℕ) (i : Instruction) (σ : State) → Framed B → d < most-temporaries → σ .registers Fixed 1 ≡ B → At (S .code) p (i ∷ keep d) q
       → σ .status ≡ Going → σ .pc ≡ p → exec1 (S .room) i σ ≡ puts (target d) v σ
       → (τ : State) × Ran S 2 σ τ × Same B d q σ τ × (valueAt (temporary d) B τ ≡ v)
   put-ok {B} d v p q i σ F hd hs c on hp e =

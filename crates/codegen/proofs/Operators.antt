@@ -24,7 +24,7 @@ use Rattle.language.specs.Tree as T
 use Rattle.language.specs.Core.{Array}
 use Rattle.language.specs.Meaning.{World, Stop, trapped, Result, goes, stops, Act, value as gives, trap, apply, operate, read, tested as insideOf}
 use Rattle.symbolic.specs.Symbolic.{Fixed, Scratch, Argument, Temporary, Reg, x0, reg, scratch, Instruction, opi, op, lw, branch, jump, call, bad, State, value, quit, goto, puts, exec1}
-use Rattle.codegen.specs.Places.{Place, constant, local, temporary, above, inRegister, short, source, fetch, target, keep}
+use Rattle.codegen.specs.Places.{Place, constant, local, temporary, above, inRegister, short, source, fetch, target, keep, most-temporaries}
 use Rattle.codegen.specs.Operators.{stub, opposite, skip, Work, plain, divided, tested, work, left, right, working, withConstant, immediate, operatingBy, operating, result, alone, applying, relation, sense, comparing, testing, always, address, locate, offset, reading}
 use Rattle.codegen.proofs.Placement.{At, at-split, at-len}
 use Rattle.codegen.proofs.Logic.{K, C, Arrays, Setting, spent, Post, Sound, sound-rates, sound-then, sound-then′, sound-end, sound-ran, Ran, ran-none, ran-step, ran-trans, ran-most}
@@ -196,7 +196,7 @@ module _ (L : Linked) (A : Activation L) where
     pub less : w .fuel < f
 
   -- the operators' instructions, once the operands are in registers
-  pub works : (k : Work) (x y d p q f : ℕ) (r s : Reg) (ls₀ ls : List ℕ) (w : World) (σ ρ ω : State) → d < 431 → Ready σ d ls₀ f ls w ρ → Same B d p ρ ω
+  pub works : (k : Work) (x y d p q f : ℕ) (r s : Reg) (ls₀ ls : List ℕ) (w : World) (σ ρ ω : State) → d < most-temporaries → Ready σ d ls₀ f ls w ρ → Same B d p ρ ω
       → value ω r ≡ x → value ω s ≡ y → At (S .code) p (working k r s d) q
       → Sound S (worked k x y ls w) (K * w .fuel + 110) (w .fuel) 0 (ExprPost L A σ d q (temporary d) ls₀ f) ω
   works (plain k t) x y d p q f r s ls₀ ls w σ ρ ω hd Y G hx hy hc =
@@ -258,7 +258,7 @@ module _ (L : Linked) (A : Activation L) where
           (h .3 ∙ sym (bit-is _ false e)) (Y .keep) (Y .locals) (Y .less)))
 
   -- an operator's code, with the right side in a register
-  generally : (o : Strict) (x y d e p q f : ℕ) (pa pb : Place) (ls₀ ls : List ℕ) (w : World) (σ ρ : State) → d < 431 → There pa → There pb → d ≤ e → Stable pb e
+  generally : (o : Strict) (x y d e p q f : ℕ) (pa pb : Place) (ls₀ ls : List ℕ) (w : World) (σ ρ : State) → d < most-temporaries → There pa → There pb → d ≤ e → Stable pb e
       → Ready σ d ls₀ f ls w ρ → ρ .pc ≡ p → valueAt pa B ρ ≡ x → valueAt pb B ρ ≡ y → At (S .code) p (operatingBy none o pa pb d) q
       → Sound S (operate o x y ls w) (K * w .fuel + 124) (w .fuel) 0 (ExprPost L A σ d q (temporary d) ls₀ f) ρ
   generally o x y d e p q f pa pb ls₀ ls w σ ρ hd ta tb he sb Y hp hx hy hc =
@@ -268,7 +268,7 @@ module _ (L : Linked) (A : Activation L) where
       (works (work o) x y d (g .at) q f (source pa 0) (source pb 1) ls₀ ls w σ ρ (g .to) hd Y (g .same) (g .left-is ∙ hx) (g .right-is ∙ hy) (g .rest))))
 
   -- with an immediate
-  immediately : (r : Result ℕ) (k : Alu) (m x d p q f : ℕ) (pa : Place) (ls₀ ls : List ℕ) (w : World) (σ ρ : State) → d < 431 → There pa
+  immediately : (r : Result ℕ) (k : Alu) (m x d p q f : ℕ) (pa : Place) (ls₀ ls : List ℕ) (w : World) (σ ρ : State) → d < most-temporaries → There pa
       → Ready σ d ls₀ f ls w ρ → ρ .pc ≡ p → valueAt pa B ρ ≡ x → r ≡ goes (aluOf k x m) ls w
       → At (S .code) p (fetch pa 0 ++ (opi k (target d) (source pa 0) m ∷ keep d)) q
       → Sound S r (K * w .fuel + 124) (w .fuel) 0 (ExprPost L A σ d q (temporary d) ls₀ f) ρ
@@ -283,7 +283,7 @@ module _ (L : Linked) (A : Activation L) where
       (sound-ran S 4 (omega arith) (ran-trans S (h .1) (g .1))
       (sound-end S (omega arith) (omega arith) (finish L A (Y .cor) (same-join G (g .2)) (g .3) (Y .keep) (Y .locals) (Y .less))))
 
-  pub operates : (o : Strict) (x y d e p q f : ℕ) (pa pb : Place) (ls₀ ls : List ℕ) (w : World) (σ ρ : State) → d < 431 → There pa → There pb → d ≤ e → Stable pb e
+  pub operates : (o : Strict) (x y d e p q f : ℕ) (pa pb : Place) (ls₀ ls : List ℕ) (w : World) (σ ρ : State) → d < most-temporaries → There pa → There pb → d ≤ e → Stable pb e
       → Ready σ d ls₀ f ls w ρ → ρ .pc ≡ p → valueAt pa B ρ ≡ x → valueAt pb B ρ ≡ y → At (S .code) p (operating o pa pb d) q
       → Sound S (operate o x y ls w) (K * w .fuel + 124) (w .fuel) 0 (ExprPost L A σ d q (temporary d) ls₀ f) ρ
   operates o x y d e p q f pa (local z) ls₀ ls w σ ρ hd ta tb he sb Y hp hx hy hc = generally o x y d e p q f pa (local z) ls₀ ls w σ ρ hd ta tb he sb Y hp hx hy hc
@@ -316,7 +316,7 @@ module _ (L : Linked) (A : Activation L) where
   operates le x y d e p q f pa (constant n) ls₀ ls w σ ρ hd ta tb he sb Y hp hx hy hc = generally le x y d e p q f pa (constant n) ls₀ ls w σ ρ hd ta tb he sb Y hp hx hy hc
 
   -- a unary operator's code
-  one-alone : (o : Unary) (x d p q f : ℕ) (pl : Place) (ls₀ ls : List ℕ) (w : World) (σ ρ : State) → d < 431 → There pl
+  one-alone : (o : Unary) (x d p q f : ℕ) (pl : Place) (ls₀ ls : List ℕ) (w : World) (σ ρ : State) → d < most-temporaries → There pl
       → Ready σ d ls₀ f ls w ρ → ρ .pc ≡ p → valueAt pl B ρ ≡ x → At (S .code) p (fetch pl 0 ++ (alone o (target d) (source pl 0) ∷ keep d)) q
       → Sound S (goes (apply o x) ls w) (K * w .fuel + 124) (w .fuel) 0 (ExprPost L A σ d q (temporary d) ls₀ f) ρ
   one-alone o x d p q f pl ls₀ ls w σ ρ hd tl Y hp hx hc =
@@ -328,7 +328,7 @@ module _ (L : Linked) (A : Activation L) where
       sound-ran S 4 (omega arith) (ran-trans S (h .1) (g .1))
       (sound-end S (omega arith) (omega arith) (finish L A (Y .cor) (same-join G (g .2)) (g .3) (Y .keep) (Y .locals) (Y .less)))
 
-  pub applies : (o : Unary) (x d p q f : ℕ) (pl : Place) (ls₀ ls : List ℕ) (w : World) (σ ρ : State) → d < 431 → There pl
+  pub applies : (o : Unary) (x d p q f : ℕ) (pl : Place) (ls₀ ls : List ℕ) (w : World) (σ ρ : State) → d < most-temporaries → There pl
       → Ready σ d ls₀ f ls w ρ → ρ .pc ≡ p → valueAt pl B ρ ≡ x → At (S .code) p (applying o pl d) q
       → Sound S (goes (apply o x) ls w) (K * w .fuel + 124) (w .fuel) 0 (ExprPost L A σ d q (result o pl d) ls₀ f) ρ
   applies o x d p q f (constant n) ls₀ ls w σ ρ hd tl Y hp hx hc =
@@ -345,7 +345,7 @@ module _ (L : Linked) (A : Activation L) where
   applies o x d p q f (temporary j) ls₀ ls w σ ρ hd tl Y hp hx hc = one-alone o x d p q f (temporary j) ls₀ ls w σ ρ hd tl Y hp hx hc
 
   -- an element is read
-  pub reads : (a : Array) (i d p q f : ℕ) (pl : Place) (ls₀ ls : List ℕ) (w : World) (σ ρ : State) → d < 431 → There pl → a .offset + a .size ≤ S .elements
+  pub reads : (a : Array) (i d p q f : ℕ) (pl : Place) (ls₀ ls : List ℕ) (w : World) (σ ρ : State) → d < most-temporaries → There pl → a .offset + a .size ≤ S .elements
       → Ready σ d ls₀ f ls w ρ → ρ .pc ≡ p → valueAt pl B ρ ≡ i → At (S .code) p (reading a pl d) q
       → Sound S (read a i ls w) (K * w .fuel + 124) (w .fuel) 0 (ExprPost L A σ d q (temporary d) ls₀ f) ρ
   unfolding read

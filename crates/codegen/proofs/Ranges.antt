@@ -19,24 +19,25 @@ use Rattle.language.specs.Tree.{Unary, negate, Strict, eq, ne, lt, le, gt, ge, 
 use Rattle.language.specs.Tree as T
 use Rattle.language.specs.Core.{Array}
 use Rattle.symbolic.specs.Symbolic.{Bank, Fixed, Scratch, Argument, Temporary, width, Reg, x0, reg, sp, answer, scratch, Instruction, lui, opi, shift, mv, op, lw, sw, branch, jump, call}
-use Rattle.symbolic.specs.Fine.{Valid, Fine, AllFine}
+use Rattle.symbolic.specs.Fine.{Valid, Fine, AllFine, most-instructions}
 use Rattle.symbolic.proofs.AllFine.{fine-append}
 use Rattle.symbolic.proofs.Immediates.{small12, minus12}
-use Rattle.codegen.specs.Places.{Place, constant, local, temporary, inRegister, localWord, temporaryWord, short, upperOf, lowerOf, constantBy, constantTo, source, fetch, target, keep, move, bring, frame-bytes}
+use Rattle.codegen.specs.Places.{Place, constant, local, temporary, inRegister, localWord, temporaryWord, short, upperOf, lowerOf, constantBy, constantTo, source, fetch, target, keep, move, bring, frame-bytes, most-temporaries, in-registers}
 use Rattle.codegen.specs.Operators.{stub, skip, Work, plain, divided, tested, work, left, right, working, operatingBy, operating, alone, applying, result, sense, comparing, testing, always, address, inside, index, locateBy, locate, offset, reading, writing}
 use Rattle.codegen.specs.Expressions.{passes, saves, loads, registersOf, returning, entering, calling, decidingBy}
 use Rattle.codegen.proofs.Frame.{There}
+use Rattle.codegen.specs.Owed.{most-parameters}
 
 -- so far does a function reach: branches where they are near, else jumps
 abbrev pub Within : Bool → ℕ → Type 0
 Within true n = n < 1024
-Within false n = n ≤ 131072
+Within false n = n ≤ most-instructions
 
 pub within-less : (near : Bool) {m n : ℕ} → m ≤ n → Within near n → Within near m
 within-less true h w = omega arith
 within-less false h w = omega arith
 
-pub within-far : (near : Bool) {n : ℕ} → Within near n → n ≤ 131072
+pub within-far : (near : Bool) {n : ℕ} → Within near n → n ≤ most-instructions
 within-far true w = omega arith
 within-far false w = w
 
@@ -107,7 +108,7 @@ fine-fetch (temporary d) w h t = go (inRegister d)
     go true = tt
     go false = ((h, (omega arith), small (4 * temporaryWord d) (omega arith)), tt)
 
-pub fine-keep : (d : ℕ) → d < 431 → AllFine (keep d)
+pub fine-keep : (d : ℕ) → d < most-temporaries → AllFine (keep d)
 unfolding Fine
 fine-keep d h = go (inRegister d)
   where
@@ -115,11 +116,11 @@ fine-keep d h = go (inRegister d)
     go true = tt
     go false = ((omega arith, (omega arith), small (4 * temporaryWord d) (omega arith)), tt)
 
-copy : (p : Place) (d : ℕ) → There p → d < 431 → AllFine (fetch p 0 ++ (mv (target d) (source p 0) ∷ keep d))
+copy : (p : Place) (d : ℕ) → There p → d < most-temporaries → AllFine (fetch p 0 ++ (mv (target d) (source p 0) ∷ keep d))
 unfolding Fine
 copy p d t h = fine-append (fetch p 0) _ (fine-fetch p 0 (omega arith) t) ((valid-target d, valid-source p 0 (omega arith)), fine-keep d h)
 
-pub fine-move : (p : Place) (d : ℕ) → There p → d < 431 → AllFine (move p d)
+pub fine-move : (p : Place) (d : ℕ) → There p → d < most-temporaries → AllFine (move p d)
 fine-move (constant n) d t h = copy (constant n) d t h
 fine-move (local y) d t h = copy (local y) d t h
 fine-move (temporary j) d t h = tt
@@ -139,19 +140,19 @@ unfolding Fine
 fine-skip true c r s k hr hs w = ((hr, hs, omega arith), tt)
 fine-skip false c r s k hr hs w = ((hr, hs, omega arith), (omega arith, tt))
 
-fine-working : (k : Work) (r s : Reg) (d : ℕ) → Valid r → Valid s → d < 431 → AllFine (working k r s d)
+fine-working : (k : Work) (r s : Reg) (d : ℕ) → Valid r → Valid s → d < most-temporaries → AllFine (working k r s d)
 unfolding Fine
 fine-working (plain o t) r s d hr hs h = ((valid-target d, valid-side t r s hr hs, valid-side t s r hs hr), fine-keep d h)
 fine-working (divided o) r s d hr hs h = ((hs, tt, omega arith), (omega arith, ((valid-target d, hr, hs), fine-keep d h)))
 fine-working (tested c t) r s d hr hs h =
     ((valid-side t r s hr hs, valid-side t s r hs hr, omega arith), ((refl, valid-target d, tt, small 0 (omega arith)), (omega arith, ((refl, valid-target d, tt, small 1 (omega arith)), fine-keep d h))))
 
-general : (o : Strict) (p q : Place) (d : ℕ) → There p → There q → d < 431 → AllFine (operatingBy none o p q d)
+general : (o : Strict) (p q : Place) (d : ℕ) → There p → There q → d < most-temporaries → AllFine (operatingBy none o p q d)
 general o p q d tp tq h =
     fine-append (fetch p 0) _ (fine-fetch p 0 (omega arith) tp) (fine-append (fetch q 1) _ (fine-fetch q 1 (omega arith) tq)
     (fine-working (work o) (source p 0) (source q 1) d (valid-source p 0 (omega arith)) (valid-source q 1 (omega arith)) h))
 
-direct : (k : Alu) (m : ℕ) (p : Place) (d : ℕ) → Among aluKey immediates k → Extended 12 m → There p → d < 431 → AllFine (fetch p 0 ++ (opi k (target d) (source p 0) m ∷ keep d))
+direct : (k : Alu) (m : ℕ) (p : Place) (d : ℕ) → Among aluKey immediates k → Extended 12 m → There p → d < most-temporaries → AllFine (fetch p 0 ++ (opi k (target d) (source p 0) m ∷ keep d))
 unfolding Fine
 direct k m p d a e t h = fine-append (fetch p 0) _ (fine-fetch p 0 (omega arith) t) ((a, valid-target d, valid-source p 0 (omega arith), e), fine-keep d h)
 
@@ -159,7 +160,7 @@ minus-lt : (n : ℕ) → negW n < 2 ^ 32
 unfolding negW
 minus-lt n = omega arith
 
-pub fine-operating : (o : Strict) (p q : Place) (d : ℕ) → There p → There q → d < 431 → AllFine (operating o p q d)
+pub fine-operating : (o : Strict) (p q : Place) (d : ℕ) → There p → There q → d < most-temporaries → AllFine (operating o p q d)
 fine-operating o p (local y) d tp tq h = general o p (local y) d tp tq h
 fine-operating o p (temporary j) d tp tq h = general o p (temporary j) d tp tq h
 fine-operating add p (constant n) d tp tq h = go (short n) refl
@@ -191,10 +192,10 @@ unfolding Fine
 fine-alone negate r s hr hs = (hr, tt, hs)
 fine-alone T.not r s hr hs = (refl, hr, hs, small 1 (omega arith))
 
-one-alone : (o : Unary) (p : Place) (d : ℕ) → There p → d < 431 → AllFine (fetch p 0 ++ (alone o (target d) (source p 0) ∷ keep d))
+one-alone : (o : Unary) (p : Place) (d : ℕ) → There p → d < most-temporaries → AllFine (fetch p 0 ++ (alone o (target d) (source p 0) ∷ keep d))
 one-alone o p d t h = fine-append (fetch p 0) _ (fine-fetch p 0 (omega arith) t) (fine-alone o (target d) (source p 0) (valid-target d) (valid-source p 0 (omega arith)), fine-keep d h)
 
-pub fine-applying : (o : Unary) (p : Place) (d : ℕ) → There p → d < 431 → AllFine (applying o p d)
+pub fine-applying : (o : Unary) (p : Place) (d : ℕ) → There p → d < most-temporaries → AllFine (applying o p d)
 fine-applying o (constant n) d t h = tt
 fine-applying o (local y) d t h = one-alone o (local y) d t h
 fine-applying o (temporary j) d t h = one-alone o (temporary j) d t h
@@ -243,7 +244,7 @@ fine-locate a p t h = go (inside a p)
           ),
         ))
 
-pub fine-reading : (a : Array) (p : Place) (d : ℕ) → There p → a .size < 2 ^ 32 → d < 431 → AllFine (reading a p d)
+pub fine-reading : (a : Array) (p : Place) (d : ℕ) → There p → a .size < 2 ^ 32 → d < most-temporaries → AllFine (reading a p d)
 unfolding Fine
 fine-reading a p d t h hd = fine-append (locate a p) _ (fine-locate a p t h) ((valid-target d, omega arith, lower-fits _), fine-keep d hd)
 
@@ -258,31 +259,31 @@ abbrev pub AllThere : List Place → Type 0
 AllThere [] = Unit {0}
 AllThere (p ∷ ps) = There p × AllThere ps
 
-fine-passes : (ps : List Place) (i : ℕ) → AllThere ps → i + length ps ≤ 8 → AllFine (passes ps i)
+fine-passes : (ps : List Place) (i : ℕ) → AllThere ps → i + length ps ≤ most-parameters → AllFine (passes ps i)
 unfolding Fine passes
 fine-passes [] i t h = tt
 fine-passes (p ∷ ps) i t h =
     fine-append (fetch p 0) _ (fine-fetch p 0 (omega arith) (t .0))
     ((valid-source p 0 (omega arith), omega arith, small (frame-bytes + 4 * localWord i) (omega arith)), fine-passes ps (suc i) (t .1) (omega arith))
 
-fine-saves : (n : ℕ) → n ≤ 7 → AllFine (saves n)
+fine-saves : (n : ℕ) → n ≤ in-registers → AllFine (saves n)
 unfolding Fine saves
 fine-saves zero h = tt
 fine-saves (suc n) h = fine-append (saves n) _ (fine-saves n (omega arith)) ((omega arith, omega arith, small (4 * temporaryWord n) (omega arith)), tt)
 
-fine-loads : (n : ℕ) → n ≤ 7 → AllFine (loads n)
+fine-loads : (n : ℕ) → n ≤ in-registers → AllFine (loads n)
 unfolding Fine loads
 fine-loads zero h = tt
 fine-loads (suc n) h = fine-append (loads n) _ (fine-loads n (omega arith)) ((omega arith, omega arith, small (4 * temporaryWord n) (omega arith)), tt)
 
-registers-few : (d : ℕ) → registersOf d ≤ 7
+registers-few : (d : ℕ) → registersOf d ≤ in-registers
 registers-few d = go (inRegister d) refl
   where
-    go : (t : Bool) → inRegister d ≡ t → pick t d 7 ≤ 7
+    go : (t : Bool) → inRegister d ≡ t → pick t d 7 ≤ in-registers
     go true e = let h : d < 7 = ltb-true d 7 e in omega arith
     go false e = omega arith
 
-pub fine-calling : (target : ℕ) (ps : List Place) (d : ℕ) → target ≤ 131072 → AllThere ps → length ps ≤ 8 → AllFine (calling target ps d)
+pub fine-calling : (target : ℕ) (ps : List Place) (d : ℕ) → target ≤ most-instructions → AllThere ps → length ps ≤ most-parameters → AllFine (calling target ps d)
 unfolding Fine
 fine-calling target ps d ht tp h =
     fine-append (passes ps 0) _ (fine-passes ps 0 tp (omega arith)) (fine-append (saves (registersOf d)) _ (fine-saves (registersOf d) (registers-few d)) (
@@ -296,7 +297,7 @@ fine-calling target ps d ht tp h =
       ),
     ))
 
-pub fine-deciding : (entry : ℕ → ℕ) (near : Bool) (s : Option (Cond × Bool)) (t : Bool) (o : Strict) (p q : Place) (d k : ℕ) → There p → There q → d < 431
+pub fine-deciding : (entry : ℕ → ℕ) (near : Bool) (s : Option (Cond × Bool)) (t : Bool) (o : Strict) (p q : Place) (d k : ℕ) → There p → There q → d < most-temporaries
     → Within near (k + length (decidingBy entry near s t o p q d k)) → AllFine (decidingBy entry near s t o p q d k)
 fine-deciding entry near none t o p q d k tp tq h w =
     fine-append (operating o p q d) _ (fine-operating o p q d tp tq h) (fine-testing near t (temporary d) k h (tail-within near k (operating o p q d) (testing near t (temporary d) k) w))

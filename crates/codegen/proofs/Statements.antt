@@ -20,13 +20,13 @@ use Rattle.language.specs.Core.{Array, Expr, Args, Stmt, Block}
 use Rattle.language.specs.Core as C
 use Rattle.language.specs.Meaning.{World, Stop, trapped, outOfFuel, Result, goes, stops, Act, bind, begin, value as gives, trap, branch, write, assign, append, Flow, next, returned, followed, rounds, callAt, eval, exec, block as blockOf}
 use Rattle.symbolic.specs.Symbolic.{Fixed, Scratch, Argument, Temporary, Reg, x0, reg, ra, sp, answer, request, scratch, Instruction, opi, lw, sw, jump, jumpBack, ret, ecall, bad, State, state, updated, value, pos, positionOf, quit, goto, puts, stores, logs, ecallOf, exec1}
-use Rattle.codegen.specs.Places.{Place, constant, local, temporary, above, localWord, temporaryWord, stack-start, source, fetch, bring}
+use Rattle.codegen.specs.Places.{Place, constant, local, temporary, above, localWord, temporaryWord, stack-start, source, fetch, bring, most-temporaries}
 use Rattle.codegen.specs.Operators.{stub, address, locate, offset, writing}
 use Rattle.codegen.specs.Expressions.{placeOf, placesOf, calling, code, codes, condition}
-use Rattle.codegen.specs.Statements.{leaving, over, otherwise, statement, block}
-use Rattle.codegen.specs.Owed.{nodes, nodesOf, size, sizeOf, count, nothing, Callable, Fits, FitsAll, Tests, Runs, RunsAll}
+use Rattle.codegen.specs.Statements.{leaving, over, otherwise, brought, answering, statement, block}
+use Rattle.codegen.specs.Owed.{nodes, nodesOf, size, sizeOf, count, nothing, Callable, Fits, FitsAll, Tests, Runs, RunsAll, most-parameters}
 use Rattle.codegen.proofs.Placement.{At, at-split, at-len}
-use Rattle.codegen.proofs.Logic.{K, C, Arrays, Setting, spent, Post, Sound, Halt, sound-rates, sound-bind, sound-bind′, sound-then, sound-post, sound-begin, sound-step, sound-end, sound-stop, sound-pure, sound-ran, Ran, ran-none, ran-step, ran-trans, ran-most}
+use Rattle.codegen.proofs.Logic.{K, C, Arrays, Setting, spent, Post, Sound, Halt, sound-rates, sound-bind, sound-bind′, sound-then, sound-then′, sound-post, sound-begin, sound-step, sound-end, sound-stop, sound-pure, sound-ran, Ran, ran-none, ran-step, ran-trans, ran-most}
 use Rattle.codegen.proofs.Numbers.{in-data}
 use Rattle.codegen.proofs.Frame.{updated-same, updated-other, Framed, Only, only-puts, Same, only-same, same-join, valueAt, There, Stable, value-same, lw-step, sw-step}
 use Rattle.codegen.proofs.Macros.{fetch-ok, bring-ok, trap-ok}
@@ -361,7 +361,41 @@ module _ (L : Linked) (A : Activation L) where
         (sound-end S (omega arith) (omega arith) (h .2)));
   }
 
-  give-in : (m : Act ℕ) (z p r s q : ℕ) (pl : Place) → Fit L A pl 0 → ExprIn L A m z 0 p r pl → At (S .code) r (bring pl) s → At (S .code) s leaving q
+  -- a value is in the register of results
+  pub record AnswerPost (q f v : ℕ) (ls : List ℕ) (w : World) (τ : State) : Type 0 where
+    pub on : τ .status ≡ Going
+    pub here : τ .pc ≡ q
+    pub cor : Cor L A ls w τ
+    pub is : τ .registers Argument 0 ≡ v
+    pub less : w .fuel < f
+
+  pub record AnswerIn (m : Act ℕ) (z p q : ℕ) : Type 0 where
+    pub run : (ls : List ℕ) (w : World) (σ : State) → σ .status ≡ Going → σ .pc ≡ p → Cor L A ls w σ
+        → Sound S (m ls w) (K * w .fuel - 96) (w .fuel) z (AnswerPost q (w .fuel)) σ
+
+  brought-in : (m : Act ℕ) (z p r q : ℕ) (pl : Place) → Fit L A pl 0 → ExprIn L A m z 0 p r pl → At (S .code) r (bring pl) q → AnswerIn m z p q
+  brought-in m z p r q pl hf I hb = record {
+    run = λ ls w σ on hp c.
+        sound-then′ S {z2 = 0} (m ls w) 2 (omega arith) (λ _ _ _ _ Q. omega (arith, Q .less)) (omega arith) (omega arith) (I .run ls w σ on hp c)
+        (λ v ls2 w2 τ Q.
+        let h = bring-ok S pl r q τ (framed L A) (there L A pl 0 hf) (Q .cor .sp-is) hb (Q .on) (Q .here) in
+        sound-ran S 2 (omega arith) (h .1)
+        (sound-end S (omega arith) (omega arith) (record { on = h .2 .on; here = h .2 .here; cor = core-answer (Q .cor) (h .2); is = h .3 ∙ Q .is; less = Q .less })));
+  }
+
+  -- a call's result is there already
+  answered-call : (m : Act (List ℕ)) (f z p r q : ℕ) (ps : List Place) → f < length (L .functions) → length ps ≡ getD (L .functions) f nothing .parameters → length ps ≤ most-parameters
+      → ArgsIn L A m z 0 p r ps → At (S .code) r (calling (L .entry f) ps 0) q
+      → AnswerIn (λ ls w. bind (begin ls w) (λ _ ls w. bind (m ls w) (λ vs. callAt (S .room) (L .functions) (A .left) f vs))) (suc z) p q
+  answered-call m f z p r q ps hf har few I hc = record {
+    run = λ ls w σ on hp c. sound-begin S ls w _ on (c .log-is) (λ g e.
+        sound-bind S {z2 = 0} 128 (omega arith) (omega arith) (omega arith) (I .run ls (spent g w) σ on hp (core-spent L A g c))
+        (λ vs ls2 w2 τ Q. sound-then S {z2 = 0} (callAt (S .room) (L .functions) (A .left) f vs ls2 w2) 0 (omega arith) (omega arith) (omega arith)
+        (calls L A f vs ps 0 r q ls2 w2 τ (omega arith) (Q .on) (Q .here) (Q .cor) (Q .held) hf har few hc)
+        (λ v ls3 w3 ρ Z. sound-end S (omega arith) (omega arith) (record { on = Z .on; here = Z .here; cor = Z .cor; is = Z .is; less = omega (arith, Z .less, Q .less) }))));
+  }
+
+  give-in : (m : Act ℕ) (z p s q : ℕ) → AnswerIn m z p s → At (S .code) s leaving q
       → StmtIn (λ ls w. bind (begin ls w) (λ _ ls w. bind (m ls w) (λ v. gives (returned v)))) (suc z) p q
   give-in m z p r s q pl hf I hb hc = record {
     run = λ ls w σ on hp c. sound-begin S ls w _ on (c .log-is) (λ f e.
@@ -407,7 +441,7 @@ module _ (L : Linked) (A : Activation L) where
           sound-ran S 1 (omega arith) (ran-step S {τ = quit (Trap 4) σ} on hp (hc .0) (does false e) (ran-none S))
           (sound-stop S (omega arith) (omega arith) (refl, c .log-is, c .arrays))
 
-  emit-in : (m : Act ℕ) (z p r s q : ℕ) (pl : Place) → Fit L A pl 0 → ExprIn L A m z 0 p r pl → At (S .code) r (bring pl) s → At (S .code) s (ecall ∷ []) q
+  emit-in : (m : Act ℕ) (z p s q : ℕ) → AnswerIn m z p s → At (S .code) s (ecall ∷ []) q
       → StmtIn (λ ls w. bind (begin ls w) (λ _ ls w. bind (m ls w) (λ v ls w. bind (append (S .room) v ls w) (λ _. gives next)))) (suc z) p q
   emit-in m z p r s q pl hf I hb hc = record {
     run = λ ls w σ on hp c. sound-begin S ls w _ on (c .log-is) (λ f e.
@@ -419,7 +453,7 @@ module _ (L : Linked) (A : Activation L) where
   }
 
   -- a call whose result is dropped
-  run-in : (m : Act (List ℕ)) (f z p r q : ℕ) (ps : List Place) → f < length (L .functions) → length ps ≡ getD (L .functions) f nothing .parameters → length ps ≤ 8
+  run-in : (m : Act (List ℕ)) (f z p r q : ℕ) (ps : List Place) → f < length (L .functions) → length ps ≡ getD (L .functions) f nothing .parameters → length ps ≤ most-parameters
       → ArgsIn L A m z 0 p r ps → At (S .code) r (calling (L .entry f) ps 0) q
       → StmtIn (λ ls w. bind (begin ls w) (λ _ ls w. bind (m ls w) (λ vs ls w. bind (callAt (S .room) (L .functions) (A .left) f vs ls w) (λ _. gives next)))) (suc z) p q
   run-in m f z p r q ps hf har few I hc = record {
@@ -438,9 +472,28 @@ module _ (L : Linked) (A : Activation L) where
   abbrev pub exs : Block → Act Flow
   exs b = blockOf (S .room) (callAt (S .room) (L .functions) (A .left)) b
 
-  module _ (small : (f : ℕ) → f < length (L .functions) → getD (L .functions) f nothing .parameters ≤ 8) where
+  module _ (small : (f : ℕ) → f < length (L .functions) → getD (L .functions) f nothing .parameters ≤ most-parameters) where
+    brings : (e : Expr) (p q : ℕ) → Fits (L .functions) (S .elements) (A .N) e most-temporaries → At (S .code) p (brought (L .entry) (A .near) e) q → AnswerIn (ev L A e) (nodes e) p q
+    brings e p q w hc =
+        let t = at-split (S .code) p (code (L .entry) (A .near) e 0) (bring (placeOf e 0)) q hc in
+        brought-in (ev L A e) (nodes e) p (t .0) q (placeOf e 0) (fit-of L A e 0 most-temporaries w (omega arith)) (expr L A small e 0 most-temporaries p (t .0) w (omega arith) (t .1)) (t .2)
+
+    answers : (e : Expr) (p q : ℕ) → Fits (L .functions) (S .elements) (A .N) e most-temporaries → At (S .code) p (answering (L .entry) (A .near) e) q → AnswerIn (ev L A e) (nodes e) p q
+    unfolding answering Fits eval nodes
+    answers (C.call f xs) p q w hc =
+        let t = at-split (S .code) p (codes (L .entry) (A .near) xs 0) (calling (L .entry f) (placesOf xs 0) 0) q hc in
+        answered-call (evs L A xs) f (nodesOf xs) p (t .0) q (placesOf xs 0) (w .1 .known) (places-count L A xs 0 ∙ w .1 .arity)
+        (let k = places-count L A xs 0 ∙ w .1 .arity in let s = small f (w .1 .known) in omega (arith, k, s)) (args L A small xs 0 most-temporaries p (t .0) (w .2) (omega arith) (t .1)) (t .2)
+    answers (C.number n) p q w hc = brings (C.number n) p q w hc
+    answers (C.local x) p q w hc = brings (C.local x) p q w hc
+    answers (C.element a i) p q w hc = brings (C.element a i) p q w hc
+    answers (C.unary o e) p q w hc = brings (C.unary o e) p q w hc
+    answers (C.strict o a b) p q w hc = brings (C.strict o a b) p q w hc
+    answers (C.and a b) p q w hc = brings (C.and a b) p q w hc
+    answers (C.or a b) p q w hc = brings (C.or a b) p q w hc
+
     -- an `if`, with its blocks' code proved
-    if-in : (e : Expr) (a b : Block) (p q : ℕ) → Tests (L .functions) (S .elements) (A .N) e 431
+    if-in : (e : Expr) (a b : Block) (p q : ℕ) → Tests (L .functions) (S .elements) (A .N) e most-temporaries
         → At (S .code) p (condition (L .entry) (A .near) e false 0 (length (block (L .entry) (A .near) a) + over b)
         ++ (block (L .entry) (A .near) a ++ otherwise b (block (L .entry) (A .near) b))) q
         → ((r u : ℕ) → At (S .code) r (block (L .entry) (A .near) a) u → StmtIn (exs a) (sizeOf a) r u)
@@ -453,7 +506,7 @@ module _ (L : Linked) (A : Activation L) where
         let u = at-split (S .code) (t .0) ca [] q (t .2) in
         let len = at-len (S .code) (t .0) ca (u .0) (u .1) in
         choose-end (ev L A e) (exs a) (nodes e) (sizeOf a) p (t .0) q (length ca + 0) (omega (arith, len, u .2)) (omega (arith, len, u .2))
-        (cond L A small e false 0 431 p (t .0) (length ca + 0) w (omega arith) (t .1)) (I (t .0) q (subst (λ (n : ℕ). At (S .code) (t .0) ca n) (u .2) (u .1)))
+        (cond L A small e false 0 most-temporaries p (t .0) (length ca + 0) w (omega arith) (t .1)) (I (t .0) q (subst (λ (n : ℕ). At (S .code) (t .0) ca n) (u .2) (u .1)))
     if-in e a (C.then s b) p q w hc I J =
         let ca = block (L .entry) (A .near) a in
         let cb = block (L .entry) (A .near) (C.then s b) in
@@ -463,7 +516,7 @@ module _ (L : Linked) (A : Activation L) where
         let lb = at-len (S .code) (suc (u .0)) cb q (u .2 .1) in
         choose-else (ev L A e) (exs a) (exs (C.then s b)) (nodes e) (sizeOf a) (sizeOf (C.then s b)) p (t .0) (u .0) q (length ca + 1) (suc (length cb))
         (omega (arith, la)) (omega (arith, la)) (omega (arith, lb))
-        (cond L A small e false 0 431 p (t .0) (length ca + 1) w (omega arith) (t .1)) (I (t .0) (u .0) (u .1)) (u .2 .0) (J (suc (u .0)) q (u .2 .1))
+        (cond L A small e false 0 most-temporaries p (t .0) (length ca + 1) w (omega arith) (t .1)) (I (t .0) (u .0) (u .1)) (u .2 .0) (J (suc (u .0)) q (u .2 .1))
 
     mutual
       unfolding exec blockOf statement block size sizeOf Runs RunsAll
@@ -471,14 +524,14 @@ module _ (L : Linked) (A : Activation L) where
       pub stmt : (s : Stmt) (p q : ℕ) → Runs (L .functions) (S .elements) (A .N) s → size s ≤ C → At (S .code) p (statement (L .entry) (A .near) s) q → StmtIn (ex s) (size s) p q
       stmt (C.put x e) p q w h hc =
           let t = at-split (S .code) p (code (L .entry) (A .near) e 0) (fetch (placeOf e 0) 0 ++ (sw (source (placeOf e 0) 0) sp (4 * localWord x) ∷ [])) q hc in
-          put-in (ev L A e) x (nodes e) p (t .0) q (placeOf e 0) (fit-of L A e 0 431 (w .1) (omega arith)) (w .0) (expr L A small e 0 431 p (t .0) (w .1) (omega arith) (t .1)) (t .2)
+          put-in (ev L A e) x (nodes e) p (t .0) q (placeOf e 0) (fit-of L A e 0 most-temporaries (w .1) (omega arith)) (w .0) (expr L A small e 0 most-temporaries p (t .0) (w .1) (omega arith) (t .1)) (t .2)
       stmt (C.store a i e) p q w h hc =
           let d = above (placeOf i 0) 0 in
           let t = at-split (S .code) p (code (L .entry) (A .near) i 0) (code (L .entry) (A .near) e d ++ writing a (placeOf i 0) (placeOf e d)) q hc in
           let u = at-split (S .code) (t .0) (code (L .entry) (A .near) e d) (writing a (placeOf i 0) (placeOf e d)) q (t .2) in
-          let k = left-of L A i 0 431 (w .1) (omega arith) in
-          store-in (ev L A i) (ev L A e) a (nodes i) (nodes e) p (t .0) (u .0) q (placeOf i 0) (placeOf e d) (fit-of L A i 0 431 (w .1) (omega arith)) (fit-of L A e d 430 (w .2) k) (w .0)
-          (expr L A small i 0 431 p (t .0) (w .1) (omega arith) (t .1)) (expr L A small e d 430 (t .0) (u .0) (w .2) k (u .1)) (u .2)
+          let k = left-of L A i 0 most-temporaries (w .1) (omega arith) in
+          store-in (ev L A i) (ev L A e) a (nodes i) (nodes e) p (t .0) (u .0) q (placeOf i 0) (placeOf e d) (fit-of L A i 0 most-temporaries (w .1) (omega arith)) (fit-of L A e d (most-temporaries - 1) (w .2) k) (w .0)
+          (expr L A small i 0 most-temporaries p (t .0) (w .1) (omega arith) (t .1)) (expr L A small e d (most-temporaries - 1) (t .0) (u .0) (w .2) k (u .1)) (u .2)
       stmt (C.choose e a b) p q w h hc =
           if-in e a b p q (w .0) hc (λ r u c. blk a r u (w .1) (omega arith) c) (λ r u c. blk b r u (w .2) (omega arith) c)
       stmt (C.while e b) p q w h hc =
@@ -489,20 +542,18 @@ module _ (L : Linked) (A : Activation L) where
           let lc = at-len (S .code) p cc2 (t .0) (t .1) in
           let lb = at-len (S .code) (t .0) cb (u .0) (u .1) in
           while-in (ev L A e) (exs b) (nodes e) (sizeOf b) p (t .0) (u .0) q (suc (length cb)) (length cc2 + length cb) (omega arith) (omega (arith, lb)) (omega (arith, lb)) (omega (arith, lb, lc))
-          (sym (u .2 .1)) (cond L A small e false 0 431 p (t .0) (suc (length cb)) (w .0) (omega arith) (t .1)) (blk b (t .0) (u .0) (w .1) (omega arith) (u .1)) (u .2 .0)
+          (sym (u .2 .1)) (cond L A small e false 0 most-temporaries p (t .0) (suc (length cb)) (w .0) (omega arith) (t .1)) (blk b (t .0) (u .0) (w .1) (omega arith) (u .1)) (u .2 .0)
       stmt C.leave p q w h hc = leave-in p q hc
       stmt (C.give e) p q w h hc =
-          let t = at-split (S .code) p (code (L .entry) (A .near) e 0) (bring (placeOf e 0) ++ leaving) q hc in
-          let u = at-split (S .code) (t .0) (bring (placeOf e 0)) leaving q (t .2) in
-          give-in (ev L A e) (nodes e) p (t .0) (u .0) q (placeOf e 0) (fit-of L A e 0 431 w (omega arith)) (expr L A small e 0 431 p (t .0) w (omega arith) (t .1)) (u .1) (u .2)
+          let t = at-split (S .code) p (answering (L .entry) (A .near) e) leaving q hc in
+          give-in (ev L A e) (nodes e) p (t .0) q (answers e p (t .0) w (t .1)) (t .2)
       stmt (C.emit e) p q w h hc =
-          let t = at-split (S .code) p (code (L .entry) (A .near) e 0) (bring (placeOf e 0) ++ (ecall ∷ [])) q hc in
-          let u = at-split (S .code) (t .0) (bring (placeOf e 0)) (ecall ∷ []) q (t .2) in
-          emit-in (ev L A e) (nodes e) p (t .0) (u .0) q (placeOf e 0) (fit-of L A e 0 431 w (omega arith)) (expr L A small e 0 431 p (t .0) w (omega arith) (t .1)) (u .1) (u .2)
+          let t = at-split (S .code) p (answering (L .entry) (A .near) e) (ecall ∷ []) q hc in
+          emit-in (ev L A e) (nodes e) p (t .0) q (answers e p (t .0) w (t .1)) (t .2)
       stmt (C.run f xs) p q w h hc =
           let t = at-split (S .code) p (codes (L .entry) (A .near) xs 0) (calling (L .entry f) (placesOf xs 0) 0) q hc in
           run-in (evs L A xs) f (nodesOf xs) p (t .0) q (placesOf xs 0) (w .0 .known) (places-count L A xs 0 ∙ w .0 .arity)
-          (let k = places-count L A xs 0 ∙ w .0 .arity in let s = small f (w .0 .known) in omega (arith, k, s)) (args L A small xs 0 431 p (t .0) (w .1) (omega arith) (t .1)) (t .2)
+          (let k = places-count L A xs 0 ∙ w .0 .arity in let s = small f (w .0 .known) in omega (arith, k, s)) (args L A small xs 0 most-temporaries p (t .0) (w .1) (omega arith) (t .1)) (t .2)
 
       pub blk : (b : Block) (p q : ℕ) → RunsAll (L .functions) (S .elements) (A .N) b → sizeOf b ≤ C → At (S .code) p (block (L .entry) (A .near) b) q → StmtIn (exs b) (sizeOf b) p q
       blk C.end p q w h hc = subst (λ (n : ℕ). StmtIn (exs C.end) 0 p n) hc (end-in p)

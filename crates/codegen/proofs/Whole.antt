@@ -27,6 +27,7 @@ use Rattle.codegen.specs.Owed.{Owed}
 use Rattle.codegen.proofs.Logic.{K, C, Arrays}
 use Rattle.codegen.proofs.Simulation.{K0, C0, seen, source, after, Agree, Forward, forward, Matched, matched, enough, at-least, same-then, no-fault}
 use Rattle.codegen.proofs.Encodes.{fine}
+use Rattle.symbolic.specs.Fine.{most-instructions}
 
 -- K, K0, C and C0 of claim 3
 abbrev pub costs : Costs
@@ -71,7 +72,7 @@ seen-trap finished t e = cc
 seen-trap (stopped (trapped x)) t e = ap (λ (s : Status). some s) e
 seen-trap (stopped outOfFuel) t e = cc
 
-module _ (p : Program) (O : Owed p) (fits : length (instructionsOf p) ≤ 131072) where
+module _ (p : Program) (O : Owed p) (fits : length (instructionsOf p) ≤ most-instructions) where
   module _ (arrays : List ℕ) (room : ℕ) (I : Input p arrays) where
     loads : Loads (instructionsOf p) arrays
     loads = record { short = fits; fine = fine p O fits; few = (let a = I .one-each in let b = O .few-elements in omega (arith, a, b)); words = word-of arrays (I .words) }

@@ -1,4 +1,6 @@
 -- The code of expressions: as values, which are then at their places, and as conditions, which jump.
+-- In postfix order an item's code follows from the places of its operands and from what comes next: it is a condition where, behind the `!`s that follow it,
+-- a side of `&&` or `||` or a whole condition ends, and a value elsewhere. Jumps forward are filled in where they arrive.
 use Prim.Native.Nat.{ℕ, zero, suc, _+_, _-_, _*_, _^_}
 use mathlib.Core.Bool.{Bool, true, false}
 use mathlib.Core.Bool as B
@@ -9,12 +11,13 @@ use lib.Dec.{ltb}
 use Rattle.word.specs.Choice.{pick}
 use Rattle.processor.specs.declared.Alu.the-variants.{Add}
 use Rattle.processor.specs.declared.Cond.{Cond}
+use Rattle.processor.specs.declared.Cond.the-variants.{Ne}
 use Rattle.language.specs.Tree as T
 use Rattle.language.specs.Core.{Expr, Args}
 use Rattle.language.specs.Core as C
-use Rattle.symbolic.specs.Symbolic.{Temporary, x0, reg, sp, answer, Instruction, opi, mv, lw, sw, call}
-use Rattle.codegen.specs.Places.{Place, constant, local, temporary, above, in-registers, inRegister, frame-bytes, localWord, temporaryWord, source, fetch, target, keep, move}
-use Rattle.codegen.specs.Operators.{operating, result, applying, relation, comparing, testing, always, reading}
+use Rattle.symbolic.specs.Symbolic.{Temporary, x0, reg, sp, answer, Instruction, opi, mv, lw, sw, jump, call}
+use Rattle.codegen.specs.Places.{Place, constant, local, temporary, above, in-registers, inRegister, frame-bytes, localWord, temporaryWord, source, fetch, target, keep, settle, move}
+use Rattle.codegen.specs.Operators.{skip, sense, operating, result, applying, relation, comparing, testing, always, reading}
 
 -- where an expression's value is once its code has run, when d temporaries are in use before
 unfoldable pub placeOf : Expr → ℕ → Place
@@ -74,12 +77,14 @@ module _ (entry : ℕ → ℕ) (near : Bool) where
     code (C.unary o e) d = code e d ++ applying o (placeOf e d) d
     code (C.strict o a b) d =
         code a d ++ (code b (above (placeOf a d) d) ++ operating o (placeOf a d) (placeOf b (above (placeOf a d) d)) d)
-    -- 0, unless the left side is true: then the right side
+    -- the right side where the left side is true, else 0
     code (C.and a b) d =
-        opi Add (target d) x0 0 ∷ (keep d ++ (condition a false (suc d) (length (code b d ++ move (placeOf b d) d)) ++ (code b d ++ move (placeOf b d) d)))
-    -- 1, unless the left side is false: then the right side
+        condition a false d (suc (length (code b d ++ move (placeOf b d) d)))
+        ++ ((code b d ++ move (placeOf b d) d) ++ (jump (suc (length (settle 0 d))) ∷ settle 0 d))
+    -- the right side where the left side is false, else 1
     code (C.or a b) d =
-        opi Add (target d) x0 1 ∷ (keep d ++ (condition a true (suc d) (length (code b d ++ move (placeOf b d) d)) ++ (code b d ++ move (placeOf b d) d)))
+        condition a true d (suc (length (code b d ++ move (placeOf b d) d)))
+        ++ ((code b d ++ move (placeOf b d) d) ++ (jump (suc (length (settle 1 d))) ∷ settle 1 d))
 
     pub codes : Args → ℕ → List Instruction
     codes C.none d = []
@@ -90,8 +95,7 @@ module _ (entry : ℕ → ℕ) (near : Bool) where
     condition (C.number n) t d k = always t n k
     condition (C.local x) t d k = testing near t (local x) k
     condition (C.element a i) t d k = code i d ++ (reading a (placeOf i d) d ++ testing near t (temporary d) k)
-    condition (C.call f xs) t d k =
-        codes xs d ++ (calling (entry f) (placesOf xs d) d ++ (mv (target d) answer ∷ (keep d ++ testing near t (temporary d) k)))
+    condition (C.call f xs) t d k = codes xs d ++ (calling (entry f) (placesOf xs d) d ++ skip near (sense t Ne) answer x0 k)
     condition (C.unary T.not e) t d k = condition e (B.not t) d k
     condition (C.unary T.negate e) t d k = code e d ++ (applying T.negate (placeOf e d) d ++ testing near t (result T.negate (placeOf e d) d) k)
     condition (C.strict o a b) t d k =

@@ -166,11 +166,15 @@ index (constant n) = n
 index (local y) = 0
 index (temporary d) = 0
 
+-- the index is tested against the size, and then it gives the address
+abbrev pub indexed : Array → Place → List Instruction
+indexed a p =
+    branch Ltu (source p 0) (scratch 1) 2 ∷ call (stub 2) ∷ shift Sll (scratch 0) (source p 0) 2
+    ∷ lui (scratch 1) (upperOf (address a 0)) ∷ op Add (scratch 0) (scratch 0) (scratch 1) ∷ []
+
 abbrev pub locateBy : Bool → Array → Place → List Instruction
 locateBy true a p = lui (scratch 0) (upperOf (address a (index p))) ∷ []
-locateBy false a p =
-    fetch p 0 ++ (constantTo (scratch 1) (a .size) ++ (branch Ltu (source p 0) (scratch 1) 2 ∷ call (stub 2) ∷ shift Sll (scratch 0) (source p 0) 2
-    ∷ lui (scratch 1) (upperOf (address a 0)) ∷ op Add (scratch 0) (scratch 0) (scratch 1) ∷ []))
+locateBy false a p = fetch p 0 ++ (constantTo (scratch 1) (a .size) ++ indexed a p)
 
 abbrev pub locate : Array → Place → List Instruction
 locate a p = locateBy (inside a p) a p

@@ -6,6 +6,7 @@ use lib.Dec.{ltb, leb}
 use Rattle.word.specs.Choice.{pick, either}
 use Rattle.word.specs.Word.{signExtend}
 use Rattle.processor.specs.declared.Alu.the-variants.{Add}
+use Rattle.language.specs.Meaning.{most-activations}
 use Rattle.symbolic.specs.Symbolic.{Temporary, Reg, x0, reg, sp, answer, scratch, Instruction, lui, opi, mv, lw, sw}
 
 -- The frame. All frames are of one size: word 0 is the return address, then come 64 locals, then the temporaries. The stack grows up from behind the
@@ -18,24 +19,24 @@ abbrev pub most-temporaries : ℕ
 most-temporaries = 431
 
 abbrev pub frame-words : ℕ
-frame-words = 496
+frame-words = 1 + most-locals + most-temporaries
 
 abbrev pub frame-bytes : ℕ
-frame-bytes = 1984
+frame-bytes = 4 * frame-words
 
 abbrev pub stack-start : ℕ
 stack-start = 0x110000
 
 -- behind the frames of 64 activations
 abbrev pub stack-end : ℕ
-stack-end = 0x12f000
+stack-end = stack-start + most-activations * frame-bytes
 
 -- words of the frame: of a local, of a temporary
 abbrev pub localWord : ℕ → ℕ
 localWord y = suc y
 
 abbrev pub temporaryWord : ℕ → ℕ
-temporaryWord d = 65 + d
+temporaryWord d = suc most-locals + d
 
 -- the first temporaries are in registers; each has a word of the frame besides, where it is saved across a call
 abbrev pub in-registers : ℕ
@@ -93,6 +94,10 @@ target d = pick (inRegister d) (reg Temporary d) (scratch 0)
 
 abbrev pub keep : ℕ → List Instruction
 keep d = pick (inRegister d) [] (sw (scratch 0) sp (4 * temporaryWord d) ∷ [])
+
+-- 0 or 1 becomes temporary d
+abbrev pub settle : ℕ → ℕ → List Instruction
+settle v d = opi Add (target d) x0 v ∷ keep d
 
 -- a value from its place to temporary d, where it may be already
 abbrev pub move : Place → ℕ → List Instruction

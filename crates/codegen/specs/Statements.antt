@@ -7,7 +7,7 @@ use lib.Dec.{ltb}
 use Rattle.word.specs.Choice.{pick}
 use Rattle.processor.specs.declared.Alu.the-variants.{Add}
 use Rattle.processor.specs.declared.Cond.the-variants.{Ne}
-use Rattle.language.specs.Core.{Stmt, Block, Function}
+use Rattle.language.specs.Core.{Expr, Stmt, Block, Function}
 use Rattle.language.specs.Core as C
 use Rattle.symbolic.specs.Symbolic.{x0, reg, Fixed, ra, sp, answer, Reg, Instruction, opi, lw, sw, branch, jump, jumpBack, call, ret, ecall}
 use Rattle.symbolic.specs.Fine as F
@@ -32,6 +32,20 @@ otherwise C.end c = []
 otherwise (C.then s b) c = jump (suc (length c)) ∷ c
 
 module _ (entry : ℕ → ℕ) (near : Bool) where
+  -- A value comes to the register of results. A call's is there already.
+  abbrev pub brought : Expr → List Instruction
+  brought e = code entry near e 0 ++ bring (placeOf e 0)
+
+  unfoldable pub answering : Expr → List Instruction
+  answering (C.call f xs) = codes entry near xs 0 ++ calling (entry f) (placesOf xs 0) 0
+  answering (C.number n) = brought (C.number n)
+  answering (C.local x) = brought (C.local x)
+  answering (C.element a i) = brought (C.element a i)
+  answering (C.unary o e) = brought (C.unary o e)
+  answering (C.strict o a b) = brought (C.strict o a b)
+  answering (C.and a b) = brought (C.and a b)
+  answering (C.or a b) = brought (C.or a b)
+
   unfoldable mutual
     pub statement : Stmt → List Instruction
     statement (C.put x e) = code entry near e 0 ++ (fetch (placeOf e 0) 0 ++ (sw (source (placeOf e 0) 0) sp (4 * localWord x) ∷ []))
@@ -43,8 +57,8 @@ module _ (entry : ℕ → ℕ) (near : Bool) where
         condition entry near e false 0 (suc (length (block b)))
         ++ (block b ++ (jumpBack (length (condition entry near e false 0 (suc (length (block b)))) + length (block b)) ∷ []))
     statement C.leave = opi Add answer x0 0 ∷ leaving
-    statement (C.give e) = code entry near e 0 ++ (bring (placeOf e 0) ++ leaving)
-    statement (C.emit e) = code entry near e 0 ++ (bring (placeOf e 0) ++ (ecall ∷ []))
+    statement (C.give e) = answering e ++ leaving
+    statement (C.emit e) = answering e ++ (ecall ∷ [])
     statement (C.run f xs) = codes entry near xs 0 ++ calling (entry f) (placesOf xs 0) 0
 
     pub block : Block → List Instruction

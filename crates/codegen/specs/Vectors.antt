@@ -16,7 +16,7 @@ use Rattle.language.specs.Meaning.{apply}
 use Rattle.symbolic.specs.Symbolic.{State, state, Instruction, step, run, ecallOf}
 use Rattle.codegen.specs.Places.{short, upperOf, lowerOf}
 use Rattle.codegen.specs.Expressions.{placeOf, placesOf, passes, saves, loads, code, codes, condition}
-use Rattle.codegen.specs.Statements.{statement, block, clears, functionBy, nearIn, function}
+use Rattle.codegen.specs.Statements.{answering, statement, block, clears, functionBy, nearIn, function}
 use Rattle.codegen.specs.Image.{entryFrom, functionsFrom, instructionsOf}
 
 abbrev G : Program
@@ -129,16 +129,16 @@ gives s l n = record { status = s; log = l; steps = n }
 
 -- Steps and words. A plain stack machine takes 305 steps for G, 370 to 400 for Z, 3,160 for f(62); C without optimisation takes 202 and 338 to 381.
 pub record Vectors : Type 0 where
-  pub G-runs : ends G [] ≡ gives Exit (6 ∷ 6 ∷ 5 ∷ []) 136
-  pub G-words : length (instructionsOf G) ≡ 73
-  pub Z-quiet : ends Z (10 ∷ 20 ∷ 30 ∷ 69 ∷ []) ≡ gives Exit [] 172
-  pub Z-one : ends Z (10 ∷ 70 ∷ 30 ∷ 5 ∷ []) ≡ gives Exit (1 ∷ []) 172
-  pub Z-two : ends Z (99 ∷ 20 ∷ 4294967295 ∷ 5 ∷ []) ≡ gives Exit (0 ∷ 2 ∷ 100 ∷ []) 180
+  pub G-runs : ends G [] ≡ gives Exit (6 ∷ 6 ∷ 5 ∷ []) 130
+  pub G-words : length (instructionsOf G) ≡ 67
+  pub Z-quiet : ends Z (10 ∷ 20 ∷ 30 ∷ 69 ∷ []) ≡ gives Exit [] 168
+  pub Z-one : ends Z (10 ∷ 70 ∷ 30 ∷ 5 ∷ []) ≡ gives Exit (1 ∷ []) 168
+  pub Z-two : ends Z (99 ∷ 20 ∷ 4294967295 ∷ 5 ∷ []) ≡ gives Exit (0 ∷ 2 ∷ 100 ∷ []) 176
   pub Z-words : length (instructionsOf Z) ≡ 91
-  pub f-62 : ends (down 62) [] ≡ gives Exit (62 ∷ []) 1018
+  pub f-62 : ends (down 62) [] ≡ gives Exit (62 ∷ []) 1016
   pub f-63 : ends (down 63) [] ≡ gives (Trap 3) [] 582
-  pub f-words : length (instructionsOf (down 62)) ≡ 53
+  pub f-words : length (instructionsOf (down 62)) ≡ 51
 
 pub vectors : Vectors
-unfolding instructionsOf counts entryFrom functionsFrom function functionBy nearIn clears statement block code codes condition placeOf placesOf passes saves loads short upperOf lowerOf run step ecallOf aluOf condOf reaches apply addW subW mulW negW negative magnitude ltS ltU quotS remS bitOf shlW signExtend
+unfolding answering instructionsOf counts entryFrom functionsFrom function functionBy nearIn clears statement block code codes condition placeOf placesOf passes saves loads short upperOf lowerOf run step ecallOf aluOf condOf reaches apply addW subW mulW negW negative magnitude ltS ltU quotS remS bitOf shlW signExtend
 vectors = record { G-runs = refl; G-words = refl; Z-quiet = refl; Z-one = refl; Z-two = refl; Z-words = refl; f-62 = refl; f-63 = refl; f-words = refl }
