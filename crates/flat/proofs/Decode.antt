@@ -117,7 +117,7 @@ mutual
   unfolding flat statementOf blockOf sequenceOf count stmtWords nests
 
   stmt-back : (s : C.Stmt) (h n : ℕ) (more : List ℕ) → nests s ≤ h → statementOf (blockOf h) (word (stmtWords (flat s) n more) 0) (stmtWords (flat s) n more) ≡ flat s
-  stmt-back (C.put x e) h n more l = rw (items-back (code e 0 []) more)
+  stmt-back (C.put x e) h n more l = ap (put x) (items-back _ more)
   stmt-back (C.store a i e) h n more l =
       let q : Past (header-words + itemsLength (code i 0 [])) (stmtWords (flat (C.store a i e)) n more) (itemsWords (code e 0 []) more) = onward past-header (past-items (code i 0 []) (itemsWords (code e 0 []) more)) in
       rw (q .is, items-back (code i 0 []) (itemsWords (code e 0 []) more), items-back (code e 0 []) more)
@@ -129,9 +129,9 @@ mutual
       let q : Past (header-words + itemsLength (code e 0 [])) (stmtWords (flat (C.while e b)) n more) (blockWords (flats b) more) = onward past-header (past-items (code e 0 []) (blockWords (flats b) more)) in
       rw (q .is, items-back (code e 0 []) (blockWords (flats b) more), block-back b h more (omega arith))
   stmt-back C.leave h n more l = refl
-  stmt-back (C.give e) h n more l = rw (items-back (code e 0 []) more)
-  stmt-back (C.emit e) h n more l = rw (items-back (code e 0 []) more)
-  stmt-back (C.run f xs) h n more l = rw (items-back (codes xs f 0 0 []) more)
+  stmt-back (C.give e) h n more l = ap give (items-back _ more)
+  stmt-back (C.emit e) h n more l = ap emit (items-back _ more)
+  stmt-back (C.run f xs) h n more l = ap run (items-back _ more)
 
   pub block-back : (b : C.Block) (h : ℕ) (more : List ℕ) → nestsAll b ≤ h → blockOf h (count (flats b)) (blockWords (flats b) more) ≡ flats b
   block-back C.end zero more l = refl

@@ -1,8 +1,9 @@
 -- The front page: what words of a program decode to, and that their run is the program's.
---   decoded  : function f of the words is the flat form of the program's function f
---   flat-run : the words run as the program does, with the same outcome, fuel, log and arrays
+--   decoded         : function f of the words is the flat form of the program's function f
+--   flat-run        : the words run as the program does, with the same outcome, fuel, log and arrays
+--   flat-run-before : and so they do where other words follow
 use mathlib.Core.Path.{_≡_, refl, sym, ap, _∙_}
-use mathlib.Core.List.{List, [], _∷_}
+use mathlib.Core.List.{List, [], _∷_, _++_}
 use mathlib.Core.Bool.{Bool, true, false}
 use Prim.Native.Nat.{ℕ, zero, suc, _+_, _*_, _≤_, _<_}
 use native.Mathlib.Omega.{arith}
@@ -16,6 +17,7 @@ use Rattle.flat.specs.Statements.{Function, flats, flatten, fcallAt}
 use Rattle.flat.specs.Words.{word, blockOf, most-nesting, program-words, function-words, entry, functionOf, flatRun, count, blockLength, blockWords, entries, bodies, wordsThen, wordsOf}
 use Rattle.flat.specs.Fits.{nestsAll, functionAt, letsOf, bodyOf, Fits}
 use Rattle.flat.proofs.Same.{calls-same}
+use Rattle.flat.proofs.Writing.{words-then}
 use Rattle.flat.proofs.Decode.{Past, onward, past-block, block-back}
 
 -- how many words the bodies before f have
@@ -119,12 +121,25 @@ module _ (p : C.Program) (more : List ℕ) where
   unfolding wordsThen
   main-number = refl
 
-  pub flat-run-then : Fits p → (arrays : List ℕ) (fuel room : ℕ) → flatRun words arrays fuel room ≡ runOf p arrays fuel room
+  run-then : Fits p → (arrays : List ℕ) (fuel room : ℕ) → flatRun words arrays fuel room ≡ runOf p arrays fuel room
   unfolding flatRun runOf
-  flat-run-then fits arrays fuel room =
+  run-then fits arrays fuel room =
       rw main-number
-      (ap ended (calls-same room fs (functionOf words) (decoded fits) (fits .operands) (fits .locals) most-activations .same (p .main) [] [] (record { fuel = fuel; log = []; arrays = arrays }) (omega (arith, fits .main))))
+      (ap
+      ended
+      (calls-same room fs (functionOf words) (decoded fits) (fits .operands) (fits .locals) most-activations
+      .same
+      (p .main)
+      []
+      []
+      (record { fuel = fuel; log = []; arrays = arrays })
+      (omega (arith, fits .main))))
 
-pub flat-run : (p : C.Program) → Fits p → (arrays : List ℕ) (fuel room : ℕ) → flatRun (wordsOf p) arrays fuel room ≡ runOf p arrays fuel room
-unfolding wordsOf
-flat-run p fits arrays fuel room = flat-run-then p [] fits arrays fuel room
+module _ (p : C.Program) (fits : Fits p) (arrays : List ℕ) (fuel room : ℕ) where
+  pub flat-run : flatRun (wordsOf p) arrays fuel room ≡ runOf p arrays fuel room
+  unfolding wordsOf
+  flat-run = run-then p [] fits arrays fuel room
+
+  -- the same where other words follow
+  pub flat-run-before : (more : List ℕ) → flatRun (wordsOf p ++ more) arrays fuel room ≡ runOf p arrays fuel room
+  flat-run-before more = rw (← words-then p more) (run-then p more fits arrays fuel room)

@@ -66,21 +66,21 @@ module _ (invoke : ℕ → List ℕ → Act ℕ) where
     skip-code : (e : Expr) (k : ℕ) (is : List Item) (m n : ℕ) (vs ls : List ℕ) (w : World) → n ≡ size e + m → scan invoke (code e k is) n vs ls w ≡ scan invoke is m vs ls w
     skip-code (C.number x) k is m n vs ls w h = skip-one _ is m n vs ls w h
     skip-code (C.local x) k is m n vs ls w h = skip-one _ is m n vs ls w h
-    skip-code (C.element a i) k is m n vs ls w h = skip-code i (suc k) _ (1 + m) n vs ls w (omega arith) ∙ skip-one _ is m _ vs ls w refl
-    skip-code (C.call f xs) k is m n vs ls w h = skip-codes xs f 0 (suc k) is m n vs ls w h
-    skip-code (C.unary o a) k is m n vs ls w h = skip-code a (suc k) _ (1 + m) n vs ls w (omega arith) ∙ skip-one _ is m _ vs ls w refl
+    skip-code (C.element a i) k is m n vs ls w h = skip-code i _ _ (1 + m) n vs ls w (omega arith) ∙ skip-one _ is m _ vs ls w refl
+    skip-code (C.call f xs) k is m n vs ls w h = skip-codes xs f _ _ is m n vs ls w h
+    skip-code (C.unary o a) k is m n vs ls w h = skip-code a _ _ (1 + m) n vs ls w (omega arith) ∙ skip-one _ is m _ vs ls w refl
     skip-code (C.strict o a b) k is m n vs ls w h =
-        skip-code a (suc k) _ (size b + (1 + m)) n vs ls w (omega arith) ∙ (skip-code b 0 _ (1 + m) _ vs ls w refl ∙ skip-one _ is m _ vs ls w refl)
+        skip-code a _ _ (size b + (1 + m)) n vs ls w (omega arith) ∙ (skip-code b _ _ (1 + m) _ vs ls w refl ∙ skip-one _ is m _ vs ls w refl)
     skip-code (C.and a b) k is m n vs ls w h =
-        skip-code a (suc k) _ (1 + (size b + (1 + m))) n vs ls w (omega arith) ∙
-        (skip-one _ _ (size b + (1 + m)) _ vs ls w refl ∙ (skip-code b 0 _ (1 + m) _ vs ls w refl ∙ skip-one _ is m _ vs ls w refl))
+        skip-code a _ _ (1 + (size b + (1 + m))) n vs ls w (omega arith) ∙
+        (skip-one _ _ (size b + (1 + m)) _ vs ls w refl ∙ (skip-code b _ _ (1 + m) _ vs ls w refl ∙ skip-one _ is m _ vs ls w refl))
     skip-code (C.or a b) k is m n vs ls w h =
-        skip-code a (suc k) _ (1 + (size b + (1 + m))) n vs ls w (omega arith) ∙
-        (skip-one _ _ (size b + (1 + m)) _ vs ls w refl ∙ (skip-code b 0 _ (1 + m) _ vs ls w refl ∙ skip-one _ is m _ vs ls w refl))
+        skip-code a _ _ (1 + (size b + (1 + m))) n vs ls w (omega arith) ∙
+        (skip-one _ _ (size b + (1 + m)) _ vs ls w refl ∙ (skip-code b _ _ (1 + m) _ vs ls w refl ∙ skip-one _ is m _ vs ls w refl))
 
     skip-codes : (xs : Args) (f j k : ℕ) (is : List Item) (m n : ℕ) (vs ls : List ℕ) (w : World) → n ≡ sizes xs + m → scan invoke (codes xs f j k is) n vs ls w ≡ scan invoke is m vs ls w
     skip-codes C.none f j k is m n vs ls w h = skip-one _ is m n vs ls w h
-    skip-codes (C.more e xs) f j k is m n vs ls w h = skip-code e k _ (sizes xs + m) n vs ls w (omega arith) ∙ skip-codes xs f (suc j) 0 is m _ vs ls w refl
+    skip-codes (C.more e xs) f j k is m n vs ls w h = skip-code e _ _ (sizes xs + m) n vs ls w (omega arith) ∙ skip-codes xs f _ _ is m _ vs ls w refl
 
 -- What a call does for the scan and for the evaluation: the same, where the locals find room. Function f has `lets f` locals besides its arguments.
 pub record Agree (lets : ℕ → ℕ) (invoke call-fn : ℕ → List ℕ → Act ℕ) : Type 0 where

@@ -10,9 +10,9 @@ use lib.ListN.{length, take, drop, take-append-drop}
 use lib.Seq.{length-take-le}
 use Rattle.language.specs.Core.{Program}
 use Rattle.language.specs.Meaning.{World, Run, ended, most-activations, runOf}
-use Rattle.flat.specs.Words.{word, flatRun, wordsThen}
+use Rattle.flat.specs.Words.{word, flatRun, wordsOf}
 use Rattle.flat.specs.Fits.{Fits}
-use Rattle.flat.proofs.Run.{flat-run-then}
+use Rattle.flat.proofs.Run.{flat-run-before}
 use Rattle.interpreter.specs.declared.Out.{Out}
 use Rattle.interpreter.specs.declared.Out.the-variants.{Goes, Trapped, OutOfFuel}
 use Rattle.interpreter.specs.declared.Outcome.{Outcome}
@@ -28,13 +28,16 @@ pub ran : (t : List ℕ) (room fuel : ℕ) (arrays log : List ℕ) {main f n : �
     Calls t room most-activations main [] (world fuel 0 log arrays) out (world f n log′ arrays′) → o ≡ endedOf out → Grows room 0 log n log′ → Runs t room fuel arrays log o f n arrays′ log′
 unfolding flatRun
 ran t room fuel arrays log {main} {f} {n} {out} {o} {arrays′} {log′} e x g y =
-    record { same = rw (← e) (ap ended (x .same []) ∙ (ended-as out [] (world f n log′ arrays′) ∙ ap (λ (u : Outcome). record { outcome = outcomeOf u; world = world f n log′ arrays′ }) (sym g)));
-      within = y .within (omega arith); above = y .above }
+    record {
+      same = rw (← e) (ap ended (x .same []) ∙ (ended-as out [] (world f n log′ arrays′) ∙ ap (λ (u : Outcome). record { outcome = outcomeOf u; world = world f n log′ arrays′ }) (sym g)));
+      within = y .within (omega arith);
+      above = y .above;
+    }
 
-module _ (p : Program) (more : List ℕ) (fits : Fits p) {t : List ℕ} {room fuel : ℕ} {arrays log : List ℕ} {o : Outcome} {f n : ℕ} {arrays′ log′ : List ℕ} (e : t ≡ wordsThen p more)
+module _ (p : Program) (more : List ℕ) (fits : Fits p) {t : List ℕ} {room fuel : ℕ} {arrays log : List ℕ} {o : Outcome} {f n : ℕ} {arrays′ log′ : List ℕ} (e : t ≡ wordsOf p ++ more)
     (x : Runs t room fuel arrays log o f n arrays′ log′) where
   pub run-outcome : runOf p arrays fuel room ≡ record { outcome = outcomeOf o; world = world f n log′ arrays′ }
-  run-outcome = sym (flat-run-then p more fits arrays fuel room) ∙ (ap (λ (ws : List ℕ). flatRun ws arrays fuel room) (sym e) ∙ x .same)
+  run-outcome = sym (flat-run-before p fits arrays fuel room more) ∙ (ap (λ (ws : List ℕ). flatRun ws arrays fuel room) (sym e) ∙ x .same)
 
   pub run-log : log′ ≡ runOf p arrays fuel room .world .log ++ drop n log
   run-log = sym (take-append-drop n log′) ∙ (ap (λ (zs : List ℕ). take n log′ ++ zs) (x .above) ∙ ap (λ (r : Run). r .world .log ++ drop n log) (sym run-outcome))
