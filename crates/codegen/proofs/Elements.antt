@@ -67,8 +67,7 @@ module _ (S : Setting) where
       (source-only S pl (h .2) ∙ g .3 ∙ hi) (h .3) (u .2) b e
     where
       go : (α : State) (r : ℕ) → Ran S 4 ρ α → Same B d r ρ α → value α (source pl 0) ≡ i → α .registers Scratch 1 ≡ a .size
-          → At (S .code) r (branch Ltu (source pl 0) (scratch 1) 2 ∷ call (stub 2) ∷ shift Sll (scratch 0) (source pl 0) 2
-          ∷ lui (scratch 1) (upperOf (address a 0)) ∷ op Add (scratch 0) (scratch 0) (scratch 1) ∷ []) q
+          → At (S .code) r (indexed a pl) q
           → (b : Bool) → ltb i (a .size) ≡ b → Located b B d q (lowerOf (address a 0)) i a ρ
       go α r ran G hv hz c false e =
           record {

@@ -52,7 +52,7 @@ module _ (p : Program) (O : Owed p) (fits : length (instructionsOf p) ≤ most-i
       reach true e h = let k = short-enough g e in let b = by-len true (entryOf p) (λ _. 0) g in omega (arith, k, b)
       reach false e h = h
 
-      go : (t : Bool) → nearIn g ≡ t → length (functionBy (entryOf p) t g) ≤ 131072 → AllFine (functionBy (entryOf p) t g)
+      go : (t : Bool) → nearIn g ≡ t → length (functionBy (entryOf p) t g) ≤ most-instructions → AllFine (functionBy (entryOf p) t g)
       go t e h =
           fine-by (p .functions) (p .elements) (O .few-elements) (entryOf p) (λ f k. low f) (λ f k. O .each f k .few) (g .parameters + g .lets) (P .locals) t g refl (P .body) (reach t e h)
 

@@ -319,37 +319,27 @@ module _ (L : Linked) (A : Activation L) where
       → At (S .code) u (move pl d) v → getD (S .code) v bad ≡ jump j → v + j ≡ q → τ .status ≡ Going → τ .pc ≡ r → Cor L A ls w τ
       → ((j : ℕ) → j < d → valueAt (temporary j) B τ ≡ valueAt (temporary j) B σ) → ls ≡ ls₀ → w .fuel < f
       → Sound S (mb ls w) (K * w .fuel + 96) (w .fuel) zb (ExprPost L A σ d q (temporary d) ls₀ f) τ
-  right-value mb zb d r u q f pl ls₀ ls w σ τ hf hd J hc on hp c hk he hl =
-      sound-then S {z2 = 0} (mb ls w) 4 (omega arith) (omega arith) (omega arith) (J .run ls w τ on hp c)
-      (λ v ls3 w3 ρ Z.
-      let h = moves pl v d u q ρ hf hd (Z .cor .sp-is) (Z .on) (Z .here) (Z .is) hc in
-      sound-ran S 4 (omega arith) (h .1)
-      (sound-end S (omega arith) (omega arith) (finish L A (Z .cor) (h .2) (h .3) (λ j k. Z .keep j k ∙ hk j k) (Z .locals ∙ he) (omega (arith, Z .less)))))
+  right-over mb zb d r u v q j f pl ls₀ ls w σ τ hf hd J hm hj hq on hp c hk he hl =
+      sound-then S {z2 = 0} (mb ls w) 5 (omega arith) (omega arith) (omega arith) (J .run ls w τ on hp c)
+      (λ x ls3 w3 ρ Z.
+      let h = moves pl x d u v ρ hf hd (Z .cor .sp-is) (Z .on) (Z .here) (Z .is) hm in
+      let G : Same B d q (h .0) (goto q (h .0)) = same-goto B d q (h .0) in
+      sound-ran S 5 (omega arith)
+      (ran-trans S (h .1) (ran-step S {τ = goto q (h .0)} (h .2 .on) (h .2 .here) hj
+      (ap (λ (a : ℕ). goto a (h .0)) (let y : h .0 .pc + j ≡ q = omega (arith, h .2 .here) in y)) (ran-none S {n = 0})))
+      (sound-end S (omega arith) (omega arith)
+      (finish L A (Z .cor) (same-join (h .2) G) (value-goto d q x (h .0) (h .3)) (λ j k. Z .keep j k ∙ hk j k) (Z .locals ∙ he) (omega (arith, Z .less)))))
+    where
+      value-goto : (d q x : ℕ) (ρ : State) → valueAt (temporary d) B ρ ≡ x → valueAt (temporary d) B (goto q ρ) ≡ x
+      value-goto d q x ρ e = value-same (temporary d) (let k : d < suc d = omega arith in k) (same-goto B (suc d) q ρ) ∙ e
 
-  -- the value of the left side's default is kept
-  left-value : (v n d q f : ℕ) (ls₀ ls : List ℕ) (w : World) (σ τ₀ τ : State) {zb : ℕ} → τ .status ≡ Going → τ .pc ≡ q → Cor L A ls w τ → valueAt (temporary d) B τ₀ ≡ v
-      → Same B d n σ τ₀ → ((j : ℕ) → j < suc d → valueAt (temporary j) B τ ≡ valueAt (temporary j) B τ₀) → ls ≡ ls₀ → w .fuel < f
-      → Sound S (goes v ls w) (K * w .fuel + 96) (w .fuel) zb (ExprPost L A σ d q (temporary d) ls₀ f) τ
-  left-value v n d q f ls₀ ls w σ τ₀ τ on hp c hv G hk he hl =
-      sound-end S (omega arith) (omega arith) (record {
-        on = on;
-        here = hp;
-        cor = c;
-        is = hk d (omega arith) ∙ hv;
-        keep = λ j h. hk j (omega arith) ∙ value-same (temporary j) h G;
-        locals = he;
-        less = hl;
-      })
-
-  and-in : (ma mb : Act ℕ) (za zb d p r s u q n : ℕ) (pl : Place) → Fit L A pl d → d < 431 → n ≡ q - s → s ≤ q
-      → At (S .code) p (opi Add (target d) x0 0 ∷ keep d) r → CondIn ma za false (suc d) r s n → ExprIn mb zb d s u pl → At (S .code) u (move pl d) q
+  and-in : (ma mb : Act ℕ) (za zb d p s u v q n j : ℕ) (pl : Place) → Fit L A pl d → d < most-temporaries → n ≡ suc (v - s) → s ≤ v → v + j ≡ q
+      → CondIn ma za false d p s n → ExprIn mb zb d s u pl → At (S .code) u (move pl d) v → getD (S .code) v bad ≡ jump j → At (S .code) (suc v) (settle 0 d) q
       → ExprIn (λ ls w. bind (begin ls w) (λ _ ls w. bind (ma ls w) (λ x. branch x mb (gives 0)))) (suc (za + zb)) d p q (temporary d)
-  and-in ma mb za zb d p r s u q n pl hf hd hn hs hk I J hc = record {
+  and-in ma mb za zb d p s u v q n j pl hf hd hn hs hq I J hm hj hc = record {
     run = λ ls w σ on hp c. sound-begin S ls w _ on (c .log-is) (λ f e.
-        let h = put-ok S d 0 p r _ σ (framed L A) hd (c .sp-is) hk on hp (ap (λ (v : ℕ). puts (target d) v σ) zero-is) in
-        sound-ran S 2 (omega arith) (h .1)
-        (sound-bind S {z2 = zb} 96 (omega arith) (omega arith) (omega arith) (I .run ls (spent f w) (h .0) (h .2 .on) (h .2 .here) (core-spent L A f (core-same L A c (h .2))))
-        (λ x ls2 w2 τ Q. go x ls ls2 w2 (w .fuel) f σ (h .0) τ (omega arith) (h .2) (h .3) Q)));
+        sound-bind S {z2 = zb} 96 (omega arith) (omega arith) (omega arith) (I .run ls (spent f w) σ on hp (core-spent L A f c))
+        (λ x ls2 w2 τ Q. go x ls ls2 w2 (w .fuel) f σ τ (omega arith) Q));
   }
     where
       go : (x : ℕ) (ls ls2 : List ℕ) (w2 : World) (g f : ℕ) (σ τ : State) → f ≤ g → CondPost L A false σ d s n ls f x ls2 w2 τ
@@ -362,12 +352,10 @@ module _ (L : Linked) (A : Activation L) where
   or-in : (ma mb : Act ℕ) (za zb d p s u v q n j : ℕ) (pl : Place) → Fit L A pl d → d < most-temporaries → n ≡ suc (v - s) → s ≤ v → v + j ≡ q
       → CondIn ma za true d p s n → ExprIn mb zb d s u pl → At (S .code) u (move pl d) v → getD (S .code) v bad ≡ jump j → At (S .code) (suc v) (settle 1 d) q
       → ExprIn (λ ls w. bind (begin ls w) (λ _ ls w. bind (ma ls w) (λ x. branch x (gives 1) mb))) (suc (za + zb)) d p q (temporary d)
-  or-in ma mb za zb d p r s u q n pl hf hd hn hs hk I J hc = record {
+  or-in ma mb za zb d p s u v q n j pl hf hd hn hs hq I J hm hj hc = record {
     run = λ ls w σ on hp c. sound-begin S ls w _ on (c .log-is) (λ f e.
-        let h = put-ok S d 1 p r _ σ (framed L A) hd (c .sp-is) hk on hp (ap (λ (v : ℕ). puts (target d) v σ) one-is) in
-        sound-ran S 2 (omega arith) (h .1)
-        (sound-bind S {z2 = zb} 96 (omega arith) (omega arith) (omega arith) (I .run ls (spent f w) (h .0) (h .2 .on) (h .2 .here) (core-spent L A f (core-same L A c (h .2))))
-        (λ x ls2 w2 τ Q. go x ls ls2 w2 (w .fuel) f σ (h .0) τ (omega arith) (h .2) (h .3) Q)));
+        sound-bind S {z2 = zb} 96 (omega arith) (omega arith) (omega arith) (I .run ls (spent f w) σ on hp (core-spent L A f c))
+        (λ x ls2 w2 τ Q. go x ls ls2 w2 (w .fuel) f σ τ (omega arith) Q));
   }
     where
       go : (x : ℕ) (ls ls2 : List ℕ) (w2 : World) (g f : ℕ) (σ τ : State) → f ≤ g → CondPost L A true σ d s n ls f x ls2 w2 τ
@@ -428,6 +416,29 @@ module _ (L : Linked) (A : Activation L) where
         let h = put-ok S d v s q _ ρ (framed L A) hd (Z .cor .sp-is) hm (Z .on) (Z .here) (ap (λ (n : ℕ). puts (target d) n ρ) (Z .is)) in
         sound-ran S 2 (omega arith) (h .1)
         (sound-end S (omega arith) (omega arith) (finish L A (Z .cor) (h .2) (h .3) (λ j k. Z .keep j k ∙ Q .keep j k) (Z .locals ∙ Q .locals) (omega (arith, Z .less, Q .less)))))));
+  }
+
+  -- a call whose result is tested
+  tested-call : (m : Act (List ℕ)) (f : ℕ) (t : Bool) (z d p r s q k : ℕ) (ps : List Place) → d < most-temporaries → f < length (L .functions)
+      → length ps ≡ getD (L .functions) f nothing .parameters → length ps ≤ most-parameters
+      → ArgsIn m z d p r ps → At (S .code) r (calling (L .entry f) ps d) s → At (S .code) s (skip (A .near) (sense t Ne) answer x0 k) q
+      → CondIn (λ ls w. bind (begin ls w) (λ _ ls w. bind (m ls w) (λ vs. callAt (S .room) (L .functions) (A .left) f vs))) (suc z) t d p q k
+  tested-call m f t z d p r s q k ps hd hf har few I hc hm = record {
+    run = λ ls w σ on hp c. sound-begin S ls w _ on (c .log-is) (λ g e.
+        sound-bind S {z2 = 0} 128 (omega arith) (omega arith) (omega arith) (I .run ls (spent g w) σ on hp (core-spent L A g c))
+        (λ vs ls2 w2 τ Q. sound-then S {z2 = 0} (callAt (S .room) (L .functions) (A .left) f vs ls2 w2) 2 (omega arith) (omega arith) (omega arith)
+        (calls L A f vs ps d r s ls2 w2 τ (omega arith) (Q .on) (Q .here) (Q .cor) (Q .held) hf har few hc)
+        (λ v ls3 w3 ρ Z.
+        let j = skip-ok S (A .near) (sense t Ne) answer x0 k s q ρ hm (Z .on) (Z .here) _ refl in
+        sound-ran S 2 (omega arith) j
+        (sound-end S (omega arith) (omega arith) (record {
+          on = refl;
+          here = ap (λ (n : ℕ). pick (condOf (sense t Ne) n 0) (q + k) q) (Z .is) ∙ aim-test L A t v q k;
+          cor = Z .cor;
+          keep = λ j h. value-same (temporary j) h (same-goto B d _ ρ) ∙ Z .keep j h ∙ Q .keep j h;
+          locals = Z .locals ∙ Q .locals;
+          less = omega (arith, Z .less, Q .less);
+        })))));
   }
 
   -- The induction.

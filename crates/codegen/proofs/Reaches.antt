@@ -117,27 +117,31 @@ module _ (functions : List Function) (elements : ℕ) (few : elements ≤ most-e
           (fine-append (code entry near b d2) _ (fine-code b d2 (m - 1) (w .2) k (head-in near (code entry near b d2) last r2))
           (fine-operating o (placeOf a d) (placeOf b d2) d (there-of a d m (w .1) h) (there-of b d2 (m - 1) (w .2) k) (omega (arith, w .0))))
       fine-code (C.and a b) d m w h r =
-          let rest = code entry near b d ++ move (placeOf b d) d in
-          let test = condition entry near a false (suc d) (length rest) in
-          let r1 : Within near (length (test ++ rest)) = within-less near (let e = length-append (keep d) (test ++ rest) in omega (arith, e)) r in
-          let r2 : Within near (length rest + length test) = within-less near (let e = length-append test rest in omega (arith, e)) r1 in (
-            (refl, valid-target d, tt, small 0 (omega arith)),
-            fine-append (keep d) _ (fine-keep d (omega (arith, w .0)))
-                (fine-append test rest (fine-condition a false (suc d) (m - 1) (length rest) (w .1) (omega (arith, w .0)) r2)
-                (fine-append (code entry near b d) _ (fine-code b d m (w .2) h (head-over near (length test) (code entry near b d) (move (placeOf b d) d) (within-less near (omega arith) r2)))
-                (fine-move (placeOf b d) d (there-of b d m (w .2) h) (omega (arith, w .0))))),
-          )
+          let cb = code entry near b d in
+          let rest = cb ++ move (placeOf b d) d in
+          let other = jump (suc (length (settle 0 d))) ∷ settle 0 d in
+          let test = condition entry near a false d (suc (length rest)) in
+          let x = length-append test (rest ++ other) in
+          let y = length-append rest other in
+          let z = length-append cb (move (placeOf b d) d) in
+          let o = within-far near r in
+          fine-append test (rest ++ other) (fine-condition a false d (m - 1) (suc (length rest)) (w .1) (omega arith) (within-less near (omega (arith, x, y)) r))
+          (fine-append rest other
+          (fine-append cb (move (placeOf b d) d) (fine-code b d m (w .2) h (within-less near (omega (arith, x, y, z)) r)) (fine-move (placeOf b d) d (there-of b d m (w .2) h) (omega (arith, w .0))))
+          (omega (arith, x, y, o), ((refl, valid-target d, tt, small 0 (omega arith)), fine-keep d (omega (arith, w .0)))))
       fine-code (C.or a b) d m w h r =
-          let rest = code entry near b d ++ move (placeOf b d) d in
-          let test = condition entry near a true (suc d) (length rest) in
-          let r1 : Within near (length (test ++ rest)) = within-less near (let e = length-append (keep d) (test ++ rest) in omega (arith, e)) r in
-          let r2 : Within near (length rest + length test) = within-less near (let e = length-append test rest in omega (arith, e)) r1 in (
-            (refl, valid-target d, tt, small 1 (omega arith)),
-            fine-append (keep d) _ (fine-keep d (omega (arith, w .0)))
-                (fine-append test rest (fine-condition a true (suc d) (m - 1) (length rest) (w .1) (omega (arith, w .0)) r2)
-                (fine-append (code entry near b d) _ (fine-code b d m (w .2) h (head-over near (length test) (code entry near b d) (move (placeOf b d) d) (within-less near (omega arith) r2)))
-                (fine-move (placeOf b d) d (there-of b d m (w .2) h) (omega (arith, w .0))))),
-          )
+          let cb = code entry near b d in
+          let rest = cb ++ move (placeOf b d) d in
+          let other = jump (suc (length (settle 1 d))) ∷ settle 1 d in
+          let test = condition entry near a true d (suc (length rest)) in
+          let x = length-append test (rest ++ other) in
+          let y = length-append rest other in
+          let z = length-append cb (move (placeOf b d) d) in
+          let o = within-far near r in
+          fine-append test (rest ++ other) (fine-condition a true d (m - 1) (suc (length rest)) (w .1) (omega arith) (within-less near (omega (arith, x, y)) r))
+          (fine-append rest other
+          (fine-append cb (move (placeOf b d) d) (fine-code b d m (w .2) h (within-less near (omega (arith, x, y, z)) r)) (fine-move (placeOf b d) d (there-of b d m (w .2) h) (omega (arith, w .0))))
+          (omega (arith, x, y, o), ((refl, valid-target d, tt, small 1 (omega arith)), fine-keep d (omega (arith, w .0)))))
 
       fine-codes : (xs : Args) (d m : ℕ) → FitsAll functions elements N xs m → d + m ≤ most-temporaries → Within near (length (codes entry near xs d)) → AllFine (codes entry near xs d)
       fine-codes C.none d m w h r = tt
@@ -159,11 +163,8 @@ module _ (functions : List Function) (elements : ℕ) (few : elements ≤ most-e
           let last = skip near (sense t Ne) answer x0 k in
           let r2 = tail-over near k (codes entry near xs d) (calling (entry f) (placesOf xs d) d ++ last) r in
           fine-append (codes entry near xs d) _ (fine-codes xs d m (w .2) h (head-over near k (codes entry near xs d) (calling (entry f) (placesOf xs d) d ++ last) r))
-          (fine-append (calling (entry f) (placesOf xs d) d) last (fine-call f xs d m (w .1) (w .2) h) (
-            (valid-target d, omega arith),
-            fine-append (keep d) test (fine-keep d (omega (arith, w .0)))
-                (fine-testing near t (temporary d) k (omega (arith, w .0)) (tail-over near k (keep d) test (within-less near (omega arith) r3))),
-          ))
+          (fine-append (calling (entry f) (placesOf xs d) d) last (fine-call f xs d m (w .1) (w .2) h)
+          (fine-skip near (sense t Ne) answer x0 k (omega arith) tt (tail-over near k (calling (entry f) (placesOf xs d) d) last r2)))
       fine-condition (C.unary T.not e) t d m k w h r = fine-condition e (B2.not t) d m k w h r
       fine-condition (C.unary T.negate e) t d m k w h r =
           let last = testing near t (result T.negate (placeOf e d) d) k in
@@ -265,7 +266,7 @@ module _ (functions : List Function) (elements : ℕ) (few : elements ≤ most-e
           let test = condition entry near e false 0 (length ca + over b) in
           let r2 = tail-in near test (ca ++ last) r in
           let r3 = tail-in near ca last r2 in
-          fine-append test _ (fine-condition e false 0 431 (length ca + over b) (w .0) (omega arith)
+          fine-append test _ (fine-condition e false 0 most-temporaries (length ca + over b) (w .0) (omega arith)
           (within-less near (let x = length-append test (ca ++ last) in let y = length-append ca last in let z = over-in b cb in omega (arith, x, y, z)) r))
           (fine-append ca last (fine-block a (w .1) (head-in near ca last r2))
           (fine-otherwise b cb r3 (fine-block b (w .2) (within-less near (otherwise-in b cb (end-length b)) r3))))
@@ -274,7 +275,7 @@ module _ (functions : List Function) (elements : ℕ) (few : elements ≤ most-e
           let test = condition entry near e false 0 (suc (length cb)) in
           let last = jumpBack (length test + length cb) ∷ [] in
           let r2 = tail-in near test (cb ++ last) r in
-          fine-append test _ (fine-condition e false 0 431 (suc (length cb)) (w .0) (omega arith)
+          fine-append test _ (fine-condition e false 0 most-temporaries (suc (length cb)) (w .0) (omega arith)
           (within-less near (let x = length-append test (cb ++ last) in let y = length-append cb last in omega (arith, x, y)) r))
           (fine-append cb last (fine-block b (w .1) (head-in near cb last r2)) (tt, tt))
       fine-statement C.leave w r = ((refl, omega arith, tt, small 0 (omega arith)), fine-leaving)

@@ -397,13 +397,12 @@ module _ (L : Linked) (A : Activation L) where
 
   give-in : (m : Act ℕ) (z p s q : ℕ) → AnswerIn m z p s → At (S .code) s leaving q
       → StmtIn (λ ls w. bind (begin ls w) (λ _ ls w. bind (m ls w) (λ v. gives (returned v)))) (suc z) p q
-  give-in m z p r s q pl hf I hb hc = record {
+  give-in m z p s q I hc = record {
     run = λ ls w σ on hp c. sound-begin S ls w _ on (c .log-is) (λ f e.
         sound-bind S {z2 = 0} 128 (omega arith) (omega arith) (omega arith) (I .run ls (spent f w) σ on hp (core-spent L A f c))
         (λ v ls2 w2 τ Q.
-        let h = bring-ok S pl r s τ (framed L A) (there L A pl 0 hf) (Q .cor .sp-is) hb (Q .on) (Q .here) in
-        let g = leaves v s q (w .fuel) ls2 w2 (h .0) hc (h .2 .on) (h .2 .here) (core-answer (Q .cor) (h .2)) (h .3 ∙ Q .is) (omega (arith, Q .less)) in
-        sound-ran S 4 (omega arith) (ran-trans S (h .1) (g .1)) (sound-end S (omega arith) (omega arith) (g .2))));
+        let g = leaves v s q (w .fuel) ls2 w2 τ hc (Q .on) (Q .here) (Q .cor) (Q .is) (omega (arith, Q .less)) in
+        sound-ran S 2 (omega arith) (g .1) (sound-end S (omega arith) (omega arith) (g .2))));
   }
 
   -- a value is logged
@@ -443,13 +442,11 @@ module _ (L : Linked) (A : Activation L) where
 
   emit-in : (m : Act ℕ) (z p s q : ℕ) → AnswerIn m z p s → At (S .code) s (ecall ∷ []) q
       → StmtIn (λ ls w. bind (begin ls w) (λ _ ls w. bind (m ls w) (λ v ls w. bind (append (S .room) v ls w) (λ _. gives next)))) (suc z) p q
-  emit-in m z p r s q pl hf I hb hc = record {
+  emit-in m z p s q I hc = record {
     run = λ ls w σ on hp c. sound-begin S ls w _ on (c .log-is) (λ f e.
         sound-bind S {z2 = 0} 128 (omega arith) (omega arith) (omega arith) (I .run ls (spent f w) σ on hp (core-spent L A f c))
-        (λ v ls2 w2 τ Q.
-        let h = bring-ok S pl r s τ (framed L A) (there L A pl 0 hf) (Q .cor .sp-is) hb (Q .on) (Q .here) in
-        sound-ran S 2 (omega arith) (h .1) (sound-rates S (bind (append (S .room) v ls2 w2) (λ _. gives next)) (omega arith) (omega arith)
-        (emits v s q (w .fuel) ls2 w2 (h .0) hc (h .2 .on) (h .2 .here) (core-answer (Q .cor) (h .2)) (h .3 ∙ Q .is) (omega (arith, Q .less))))));
+        (λ v ls2 w2 τ Q. sound-rates S (bind (append (S .room) v ls2 w2) (λ _. gives next)) (omega arith) (omega arith)
+        (emits v s q (w .fuel) ls2 w2 τ hc (Q .on) (Q .here) (Q .cor) (Q .is) (omega (arith, Q .less)))));
   }
 
   -- a call whose result is dropped
