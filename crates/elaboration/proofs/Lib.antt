@@ -13,3 +13,4 @@ pub mod Functions
 pub mod Locals
 pub mod Programs
 pub mod Accepted
+pub mod Kept
