@@ -2,17 +2,15 @@
 -- An activation's room begins with its locals; its operands follow, and above those the room of the calls that it makes.
 use mathlib.Core.Path.{_≡_}
 use mathlib.Core.List.{List, [], _∷_}
-use mathlib.Core.Bool.{Bool, true, false}
 use Prim.Native.Nat.{ℕ, zero, suc, _+_, _*_, _≤_, _<_}
 use lib.Dec.{eqb}
 use lib.ListN.{length, getD, take, drop}
 use Rattle.word.specs.Choice.{pick}
 use Rattle.language.specs.Rules.{most-locals}
-use Rattle.language.specs.Core.{Array}
-use Rattle.language.specs.Meaning.{World, Result, goes, stops, Stop, trapped, outOfFuel, Act, bind, _>>_, value, branch, write, assign, append, Flow, next, returned, Outcome, finished, stopped, Run, most-activations}
+use Rattle.language.specs.Meaning.{World, Result, goes, stops, trapped, outOfFuel, Act, bind, _>>_, value, branch, write, assign, append, Flow, next, returned, Outcome, finished, stopped, most-activations}
 use Rattle.flat.specs.Items.{Kind, call, unknown, top, Onward, push, most-operands, step, scan, evaluate}
 use Rattle.flat.specs.Statements.{fexec, fblock, fcallAt}
-use Rattle.flat.specs.Words.{unaries, stricts, kindOf, itemsOf, word, a, b, first-count, second-count, first-end, second, statementOf, functionOf, blockOf, most-nesting, flatRun}
+use Rattle.flat.specs.Words.{unaries, stricts, itemsOf, word, a, b, first-count, second-count, first-end, second, statementOf, functionOf, blockOf, most-nesting, flatRun}
 use Rattle.interpreter.specs.declared.Out.{Out}
 use Rattle.interpreter.specs.declared.Out.the-variants.{Goes, Trapped, OutOfFuel}
 use Rattle.interpreter.specs.declared.Flow as D
