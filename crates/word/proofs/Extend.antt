@@ -1,8 +1,8 @@
 -- Sign extension: flipping a number's top bit and taking its weight away copies the bit into all places above it.
 use Prim.Native.Nat.{ℕ, suc, _+_, _-_, _*_, _/_, _%_, _^_, _<_, _≤_}
-use mathlib.Core.Path.{_≡_, refl, sym, _∙_, ap}
+use mathlib.Core.Path.{_≡_, sym, _∙_, ap}
 use native.Mathlib.Omega.{arith}
-use native.Mathlib.Nat.{zero-mul, one-mul, zero-add, add-zero, div-eq-of-lt, pow-succ', mul-assoc, add-mul-mod-self-right, mod-eq-of-lt}
+use native.Mathlib.Nat.{zero-mul, one-mul, zero-add, add-zero, div-eq-of-lt, div-eq-of-lt-le, pow-succ', mul-assoc, add-mul-mod-self-right, mod-eq-of-lt}
 use lib.Pow.{pow-pos, pow-mono, high-ones}
 use lib.Bits.{bitXor, xor-block, xor-zero-r}
 use lib.Arith.{digits-div}
@@ -26,14 +26,14 @@ set : (H n : ℕ) → H ≤ 2 ^ 31 → n < H → (n + (2 ^ 32 - H)) % 2 ^ 32 ≡
 set H n hH h = omega arith
 
 -- a width of one bit more doubles the power
-double : (bits : ℕ) → 0 < bits → 2 ^ bits ≡ 2 * 2 ^ (bits - 1)
+pub double : (bits : ℕ) → 0 < bits → 2 ^ bits ≡ 2 * 2 ^ (bits - 1)
 double bits h = ap (λ (m : ℕ). 2 ^ m) e ∙ pow-succ' 2 (bits - 1)
   where
     e : bits ≡ suc (bits - 1)
     e = omega arith
 
 module _ (bits : ℕ) (some : 0 < bits) (most : bits ≤ 32) where
-  weight : 2 ^ (bits - 1) ≤ 2 ^ 31
+  pub weight : 2 ^ (bits - 1) ≤ 2 ^ 31
   weight = pow-mono {j = 31} (omega arith)
 
   extended-clear : (n : ℕ) → n < 2 ^ (bits - 1) → subW (bitXor n (2 ^ (bits - 1))) (2 ^ (bits - 1)) ≡ signExtend bits n
@@ -59,6 +59,18 @@ module _ (bits : ℕ) (some : 0 < bits) (most : bits ≤ 32) where
 
       small : 2 ^ (bits - 1) ≤ n → n - 2 ^ (bits - 1) < 2 ^ (bits - 1)
       small l = omega (arith, double bits some)
+
+  -- a number without its top bit stays, one with it gets all bits above
+  pub signExtend-clear : (n : ℕ) → n < 2 ^ (bits - 1) → signExtend bits n ≡ n
+  unfolding signExtend
+  signExtend-clear n h = rw (div-eq-of-lt h) (omega arith)
+
+  pub signExtend-set : (n : ℕ) → 2 ^ (bits - 1) ≤ n → n < 2 ^ bits → signExtend bits n ≡ n + (2 ^ 32 - 2 ^ bits)
+  unfolding signExtend
+  signExtend-set n l h = rw e (omega arith)
+    where
+      e : n / 2 ^ (bits - 1) ≡ 1
+      e = div-eq-of-lt-le (2 ^ (bits - 1)) (omega arith) (omega (arith, double bits some))
 
   -- the bits above are a number of whole 2 ^ bits
   above : 2 ^ 32 - 2 ^ bits ≡ (2 ^ (32 - bits) - 1) * 2 ^ bits

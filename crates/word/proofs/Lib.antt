@@ -7,3 +7,7 @@ pub mod Range
 pub mod Sums
 pub mod SignedOrder
 pub mod WordBytes
+pub mod Differences
+pub mod Quotients
+pub mod Readings
+pub mod Integers

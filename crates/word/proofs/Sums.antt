@@ -1,8 +1,8 @@
 -- Sums and differences of words: a commutative group, in which differences undo sums.
-use Prim.Native.Nat.{ℕ, _+_, _-_, _*_, _%_, _^_, _<_, _≤_}
+use Prim.Native.Nat.{ℕ, _+_, _-_, _%_, _^_, _<_, _≤_}
 use mathlib.Core.Path.{_≡_, ap}
 use native.Mathlib.Omega.{arith}
-use native.Mathlib.Nat.{add-comm, mul-comm}
+use native.Mathlib.Nat.{mul-comm}
 use Rattle.word.specs.Word.{addW, subW, negW, mulW}
 
 pub addW-comm : (a b : ℕ) → addW a b ≡ addW b a

@@ -2,7 +2,7 @@
 use Prim.Native.Nat.{ℕ, _-_, _^_}
 use mathlib.Core.Path.{_≡_, refl}
 use mathlib.Core.Bool.{true, false}
-use mathlib.Core.List.{List, [], _∷_}
+use mathlib.Core.List.{[], _∷_}
 use Rattle.word.specs.Word.{addW, subW, negW, mulW, ltS, ltU, quotS, remS, quotU, shlW, shrU, shrS, mulhSS, mulhSU, mulhUU, signExtend, negative, magnitude, wide, upper, andW, orW, xorW}
 use Rattle.word.specs.Bytes.{wordOf, bytesOf, wordsOfBytes}
 

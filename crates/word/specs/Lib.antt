@@ -1,4 +1,5 @@
 pub mod Choice
 pub mod Word
 pub mod Bytes
+pub mod Integers
 pub mod Examples

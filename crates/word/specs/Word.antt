@@ -1,8 +1,8 @@
 -- Words of 32 bits, the numbers of both documents: a word is a natural number below 2 ^ 32.
 -- Where an operation is signed, a word whose top bit is set stands for itself less 2 ^ 32 (two's complement).
 use Prim.Native.Nat.{ℕ, _+_, _-_, _*_, _/_, _%_, _^_}
-use mathlib.Core.Bool.{Bool, true, false, not}
-use lib.Dec.{leb, ltb, eqb}
+use mathlib.Core.Bool.{Bool}
+use lib.Dec.{leb, ltb}
 use lib.Bits.{bitAnd, bitOr, bitXor}
 use Rattle.word.specs.Choice.{pick, agree}
 

@@ -1,19 +1,18 @@
 // The two orders of words, and what a signed reading makes of one word.
 ghost use mathlib.Core.Path.{_≡_};
-ghost use mathlib.Core.Bool.{Bool};
-ghost use Rattle.word.specs.Word.{negative as isNegative, magnitude as sizeOf, ltS, ltU, bitOf};
+ghost use Rattle.word.specs.Word.{negative, magnitude, ltS, ltU, bitOf};
 use crate::arithmetic::neg;
 
 // Whether the word stands for a negative number.
 pub fn negative(a: u32) -> bool
-    ensures { λ r. ⌜ r ≡ isNegative a ⌝ }
+    ensures { λ r. ⌜ r ≡ negative a ⌝ }
 {
     2147483648 <= a
 }
 
 // The number that the word stands for, without its sign.
 pub fn magnitude(a: u32) -> u32
-    ensures { λ r. ⌜ r ≡ sizeOf a ⌝ }
+    ensures { λ r. ⌜ r ≡ magnitude a ⌝ }
 {
     if a < 2147483648 { a } else { neg(a) }
 }
