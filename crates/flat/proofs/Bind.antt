@@ -1,7 +1,7 @@
 -- Laws of actions: sequences regroup, two that agree everywhere may stand for each other, and a charge is paid one node at a time.
 use mathlib.Core.Path.{_≡_, refl, sym, _∙_}
 use mathlib.Core.List.{List}
-use Prim.Native.Nat.{ℕ, zero, suc}
+use Prim.Native.Nat.{ℕ, suc}
 use Rattle.language.specs.Meaning.{World, Result, goes, stops, Act, bind, begin}
 use Rattle.flat.specs.Items.{begins}
 

@@ -1,18 +1,18 @@
 -- Decoding undoes encoding: of items, statements and blocks, whatever words follow them.
 use mathlib.Core.Path.{_≡_, refl, sym, ap, _∙_}
 use mathlib.Core.List.{List, [], _∷_}
-use Prim.Native.Nat.{ℕ, zero, suc, _+_, _*_, _≤_}
+use Prim.Native.Nat.{ℕ, zero, suc, _+_, _≤_}
 use native.Mathlib.Omega.{arith}
 use lib.ListN.{length, getD, drop}
 use lib.Seq.{drop-drop}
 use Rattle.language.specs.Tree.{Unary, negate, not, Strict, eq, ne, lt, le, gt, ge, add, sub, mul, div, rem}
 use Rattle.language.specs.Core as C
-use Rattle.flat.specs.Items.{Kind, number, local, element, call, unary, strict, and, or, join, Item, item, code, codes}
+use Rattle.flat.specs.Items.{Kind, number, local, element, call, unary, strict, and, or, join, Item, item, code}
 use Rattle.flat.specs.Items as I
 use Rattle.flat.specs.Statements.{Stmt, put, store, choose, while, leave, give, emit, run, Block, end, then, flat, flats}
 use Rattle.flat.specs.Statements as S
-use Rattle.flat.specs.Words.{word, item-words, unaries, stricts, kindOf, itemOf, itemsOf, header-words, first, second, statementOf, sequenceOf, blockOf, unaryNumber, strictNumber, kindWords, itemsWords, header, count, itemsLength, restLength, blockLength, stmtWords, blockWords}
-use Rattle.flat.specs.Fits.{larger, nests, nestsAll}
+use Rattle.flat.specs.Words.{word, item-words, unaries, stricts, kindOf, itemOf, itemsOf, header-words, statementOf, sequenceOf, blockOf, unaryNumber, strictNumber, kindWords, itemsWords, count, itemsLength, restLength, blockLength, stmtWords, blockWords}
+use Rattle.flat.specs.Fits.{nests, nestsAll}
 
 unary-back : (o : Unary) → getD unaries (unaryNumber o) I.unknown ≡ unary o
 unfolding unaryNumber

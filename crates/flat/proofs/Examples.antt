@@ -1,14 +1,14 @@
 -- Examples, computed: the items of an expression, the words of a program, and vectors of document 01 §6 run from their words.
 use mathlib.Core.Path.{_≡_, refl}
-use mathlib.Core.List.{List, [], _∷_}
+use mathlib.Core.List.{[], _∷_}
 use Prim.Native.Nat.{ℕ}
-use Rattle.word.specs.Word.{addW, mulW, subW, quotS, remS, ltS, negW, bitOf}
+use Rattle.word.specs.Word.{addW, mulW}
 use Rattle.language.specs.Tree.{add, mul, div}
 use Rattle.language.specs.Core as C
-use Rattle.language.specs.Meaning.{bind, begin, fetch, operate, read, write, append, back, finished, stopped, trapped, index-outside, division-by-zero}
+use Rattle.language.specs.Meaning.{bind, begin, fetch, operate, write, append, back, finished, stopped, trapped, division-by-zero}
 use Rattle.flat.specs.Items.{number, strict, item, code, begins, popped, push, step, scan, evaluate}
 use Rattle.flat.specs.Statements.{flat, fexec, fcallAt}
-use Rattle.flat.specs.Words.{kindOf, itemOf, itemsOf, statementOf, sequenceOf, blockOf, functionOf, flatRun, strictNumber, unaryNumber, kindWords, itemsWords, count, restLength, stmtWords, entries, bodies, wordsThen, wordsOf}
+use Rattle.flat.specs.Words.{kindOf, itemOf, itemsOf, statementOf, sequenceOf, blockOf, functionOf, flatRun, strictNumber, kindWords, itemsWords, count, restLength, stmtWords, entries, bodies, wordsThen, wordsOf}
 
 -- 1 + 2 * 3: both operators begin before their left sides
 sum : C.Expr

@@ -8,14 +8,14 @@ use mathlib.Core.Bool.{Bool, true, false}
 use Prim.Native.Nat.{ℕ, zero, suc, _+_, _*_, _≤_, _<_}
 use native.Mathlib.Omega.{arith}
 use lib.Dec.{ltb}
-use lib.ListN.{length, getD, drop, List·getD-eq-default}
+use lib.ListN.{length, drop, List·getD-eq-default}
 use lib.Seq.{getD-drop}
 use borrow.Author.Tests.{lt-ltb, le-ltb, ltb-true, ltb-false}
 use Rattle.language.specs.Core as C
-use Rattle.language.specs.Meaning.{ended, most-activations, callAt, runOf}
-use Rattle.flat.specs.Statements.{Function, flats, flatten, fcallAt}
-use Rattle.flat.specs.Words.{word, blockOf, most-nesting, program-words, function-words, entry, functionOf, flatRun, count, blockLength, blockWords, entries, bodies, wordsThen, wordsOf}
-use Rattle.flat.specs.Fits.{nestsAll, functionAt, letsOf, bodyOf, Fits}
+use Rattle.language.specs.Meaning.{ended, most-activations, runOf}
+use Rattle.flat.specs.Statements.{Function, flats, flatten}
+use Rattle.flat.specs.Words.{word, most-nesting, program-words, function-words, entry, functionOf, flatRun, count, blockLength, blockWords, entries, bodies, wordsThen, wordsOf}
+use Rattle.flat.specs.Fits.{nestsAll, functionAt, bodyOf, Fits}
 use Rattle.flat.proofs.Same.{calls-same}
 use Rattle.flat.proofs.Writing.{words-then}
 use Rattle.flat.proofs.Decode.{Past, onward, past-block, block-back}

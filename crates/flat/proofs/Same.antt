@@ -1,17 +1,17 @@
 -- Flat statements, blocks and calls mean what those of the core mean, to the unit of fuel.
 use mathlib.Core.Path.{_≡_, refl, sym, ap, _∙_, fun-ext}
-use mathlib.Core.List.{List, [], _∷_, _++_}
-use Prim.Native.Nat.{ℕ, zero, suc, _+_, _≤_, _<_}
+use mathlib.Core.List.{List, [], _++_}
+use Prim.Native.Nat.{ℕ, zero, suc, _+_, _≤_}
 use native.Mathlib.Omega.{arith}
 use lib.ListN.{length, replicate}
 use borrow.Author.Tests.{le-leb}
 use Rattle.language.specs.Core.{Expr, Args}
 use Rattle.language.specs.Core as C
 use Rattle.language.specs.Rules.{most-locals}
-use Rattle.language.specs.Meaning.{World, Result, goes, stops, Act, bind, value, begin, branch, write, assign, append, Flow, next, returned, followed, rounds, back, eval, evals, exec, block, callAt}
-use Rattle.flat.specs.Items.{Item, code, codes, most-operands, begins, scan, evaluate}
+use Rattle.language.specs.Meaning.{World, Act, bind, value, begin, Flow, next, rounds, back, eval, evals, exec, block, callAt}
+use Rattle.flat.specs.Items.{code, codes, most-operands, begins, scan, evaluate}
 use Rattle.flat.specs.Statements.{Stmt, Block, Function, flat, flats, flatten, fexec, fblock, fcallAt}
-use Rattle.flat.specs.Fits.{larger, operands, operandsAll, arguments, locals, localsAll, most, mostAll, functionAt, letsOf, bodyOf, blockOperands, blockLocals}
+use Rattle.flat.specs.Fits.{operands, locals, most, mostAll, functionAt, letsOf, bodyOf, blockOperands, blockLocals}
 use Rattle.flat.proofs.Bind.{bind-assoc, bind-ext, bind-goes}
 use Rattle.flat.proofs.Scan.{onto, Agree, scan-code, scan-codes}
 

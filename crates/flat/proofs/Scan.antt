@@ -1,19 +1,17 @@
 -- The scan of an expression's items is its evaluation, to the unit of fuel: by induction on the expression, with what follows it left open.
 use mathlib.Core.Path.{_≡_, refl, sym, ap, _∙_}
 use mathlib.Core.List.{List, [], _∷_, _++_}
-use mathlib.Core.Bool.{Bool, true, false}
 use Prim.Native.Nat.{ℕ, zero, suc, _+_, _≤_, _<_}
 use native.Mathlib.Omega.{arith}
-use lib.Dec.{ltb}
-use lib.ListN.{length, getD, drop, length-append}
+use lib.ListN.{length, drop, length-append}
 use borrow.Author.Tests.{lt-ltb, le-ltb}
 use Rattle.language.specs.Core.{Expr, Args}
 use Rattle.language.specs.Core as C
 use Rattle.language.specs.Rules.{most-locals}
-use Rattle.language.specs.Meaning.{World, Result, goes, stops, Act, bind, value, begin, branch, apply, operate, read, fetch, eval, evals}
-use Rattle.flat.specs.Items.{number, local, element, call, unary, strict, and, or, join, Item, item, size, sizes, code, codes, most-operands, begins, top, popped, Onward, push, step, scan, evaluate}
-use Rattle.flat.specs.Fits.{larger, operands, operandsAll, arguments, locals, localsAll}
-use Rattle.flat.proofs.Bind.{bind-assoc, bind-ext, bind-goes, begins-more}
+use Rattle.language.specs.Meaning.{World, Result, Act, bind, value, branch, apply, operate, read, fetch, eval, evals}
+use Rattle.flat.specs.Items.{number, local, element, call, unary, strict, and, or, join, Item, item, size, sizes, code, codes, most-operands, begins, popped, Onward, push, step, scan}
+use Rattle.flat.specs.Fits.{operands, operandsAll, arguments, locals, localsAll}
+use Rattle.flat.proofs.Bind.{bind-assoc, bind-ext, begins-more}
 
 -- operands that came last to first, put back before vs
 unfoldable pub onto : List ℕ → List ℕ → List ℕ

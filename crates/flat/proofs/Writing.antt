@@ -2,7 +2,7 @@
 -- is then charged to that expression's first item. And what it writes next stands after what it has written.
 use mathlib.Core.Path.{_≡_, refl, sym, ap, _∙_}
 use mathlib.Core.List.{List, [], _∷_, _++_}
-use Prim.Native.Nat.{ℕ, zero, suc, _+_}
+use Prim.Native.Nat.{ℕ, suc, _+_}
 use lib.ListN.{length, set}
 use Rattle.language.specs.Core.{Expr, Args}
 use Rattle.language.specs.Core as C

@@ -1,12 +1,11 @@
 -- What a core program owes its flat form: a run of the words is a run of the program if blocks don't nest too deep, operands find room, and so do
 -- the locals of each function that is called. Document 01 §3 and §4 see to it.
-use mathlib.Core.List.{List, [], _∷_}
-use Prim.Native.Nat.{ℕ, zero, suc, _+_, _-_, _≤_}
+use mathlib.Core.List.{List}
+use Prim.Native.Nat.{ℕ, suc, _+_, _-_, _≤_}
 use lib.ListN.{getD}
 use Rattle.language.specs.Core.{Expr, Args, Stmt, Block, Function, Program}
 use Rattle.language.specs.Core as C
 use Rattle.language.specs.Rules.{most-locals}
-use Rattle.language.specs.Meaning as M
 use Rattle.flat.specs.Items.{most-operands}
 use Rattle.flat.specs.Words.{most-nesting}
 

@@ -1,7 +1,6 @@
 -- The flat form of an expression: one item for each node, operands before what is done with them, so that one scan forward with a stack of
 -- operands evaluates it. A node costs fuel when it begins, and that is before its operands: so an item carries a charge, the number of nodes
 -- that begin just before it, which are all the nodes whose leftmost leaf it is.
-use mathlib.Core.Bool.{Bool, true, false}
 use mathlib.Core.List.{List, [], _∷_}
 use Prim.Native.Nat.{ℕ, zero, suc, _+_}
 use lib.Dec.{ltb}
@@ -10,7 +9,7 @@ use Rattle.word.specs.Choice.{pick}
 use Rattle.language.specs.Tree.{Unary, Strict}
 use Rattle.language.specs.Core.{Array, Expr, Args}
 use Rattle.language.specs.Core as C
-use Rattle.language.specs.Meaning.{Act, bind, _>>=_, _>>_, value, trap, begin, branch, apply, operate, read, fetch}
+use Rattle.language.specs.Meaning.{Act, _>>=_, _>>_, value, trap, begin, branch, apply, operate, read, fetch}
 
 -- What an item does. `and n` and `or n` stand between the two sides: where the left side decides, its n items on the right are skipped, up to `join`,
 -- where both ways meet. `call f n` calls function f with the n uppermost operands. `unknown` is what no expression has.

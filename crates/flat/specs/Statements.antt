@@ -1,7 +1,6 @@
 -- Flat statements, blocks and functions: those of the core, with flat expressions, and what they mean. The meaning is that of document 01 §5 in the
 -- same steps; it is total, and stops as malformed where no core program gets to.
-use mathlib.Core.Bool.{Bool, true, false}
-use mathlib.Core.List.{List, [], _∷_, _++_}
+use mathlib.Core.List.{List, [], _++_}
 use Prim.Native.Nat.{ℕ, zero, suc, _+_}
 use lib.Dec.{leb}
 use lib.ListN.{length, replicate}
@@ -9,7 +8,7 @@ use Rattle.word.specs.Choice.{pick}
 use Rattle.language.specs.Core.{Array}
 use Rattle.language.specs.Core as C
 use Rattle.language.specs.Rules.{most-locals}
-use Rattle.language.specs.Meaning.{Act, bind, _>>=_, _>>_, value, trap, stops, trapped, too-many-activations, begin, branch, write, assign, append, Flow, next, returned, followed, rounds, back}
+use Rattle.language.specs.Meaning.{Act, _>>=_, _>>_, value, trap, stops, trapped, too-many-activations, begin, branch, write, assign, append, Flow, next, returned, followed, rounds, back}
 use Rattle.flat.specs.Items.{Item, code, codes, malformed, evaluate}
 
 mutual

@@ -1,19 +1,17 @@
 -- How words hold a flat program. Each kind of item and statement has a number, its place in a table here; src/lib.rt names the same numbers.
 -- Decoding is total: a word past the end is 0, a number past its table's end is unknown, and blocks nest as deep as document 01 §3 lets them.
-use mathlib.Core.Bool.{Bool, true, false}
-use mathlib.Core.List.{List, [], _∷_, _++_}
+use mathlib.Core.List.{List, [], _∷_}
 use Prim.Native.Nat.{ℕ, zero, suc, _+_, _*_}
 use lib.Dec.{ltb}
 use lib.ListN.{length, getD, drop}
 use Rattle.word.specs.Choice.{pick}
 use Rattle.language.specs.Tree.{negate, not, eq, ne, lt, le, gt, ge, add, sub, mul, div, rem}
 use Rattle.language.specs.Tree as T
-use Rattle.language.specs.Core.{Array}
 use Rattle.language.specs.Core as C
 use Rattle.language.specs.Meaning.{Run, ended, most-activations}
 use Rattle.flat.specs.Items.{Kind, number, local, element, call, unary, strict, and, or, join, Item, item}
 use Rattle.flat.specs.Items as I
-use Rattle.flat.specs.Statements.{Stmt, put, store, choose, while, leave, give, emit, run, Block, end, then, Function, flats, flatten, fcallAt}
+use Rattle.flat.specs.Statements.{Stmt, put, store, choose, while, leave, give, emit, run, Block, end, then, Function, flats, fcallAt}
 use Rattle.flat.specs.Statements as S
 
 abbrev pub word : List ℕ → ℕ → ℕ

@@ -4,3 +4,4 @@ pub mod item; // items: their words and their kinds
 pub mod operator; // operators: the numbers of items that are one
 pub mod statement; // statements: their header's words and their kinds
 pub mod program; // programs: their first words and a function's words
+pub mod trap; // how runs trap

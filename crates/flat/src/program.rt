@@ -19,5 +19,8 @@ pub const PARAMETERS: u32 = 2;
 
 pub const LETS: u32 = 3;
 
-// How a run of words that are no program's traps.
-pub const MALFORMED: u32 = 0;
+// Document 01 §4: "64 parameters and lets together per function".
+pub const MOST_LOCALS: usize = 64;
+
+// Document 01 §5: "more than 64 activations at once, main included" is a trap.
+pub const MOST_ACTIVATIONS: u32 = 64;

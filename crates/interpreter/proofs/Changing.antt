@@ -1,20 +1,17 @@
 -- What statements and calls change: a local, the log, a new activation's lets; and what the words say of a function.
 use mathlib.Core.Path.{_≡_, refl, sym, ap, _∙_}
 use mathlib.Core.List.{List, [], _∷_, _++_, append-assoc, append-nil}
-use mathlib.Core.Bool.{Bool, true, false}
-use Prim.Native.Nat.{ℕ, zero, suc, _+_, _-_, _*_, _≤_, _<_}
+use Prim.Native.Nat.{ℕ, zero, suc, _+_, _-_, _≤_, _<_}
 use native.Mathlib.Numerals.{add-one}
 use native.Mathlib.Omega.{arith}
-use lib.ListN.{length, getD, take, drop, set, replicate, length-set, replicate-append-replicate}
+use lib.ListN.{length, take, drop, set, replicate, length-set, replicate-append-replicate}
 use lib.Seq.{take-set-lt, take-suc-set, set-out, drop-set-lt, length-take-le, getD-drop, drop-drop}
 use borrow.Author.Tests.{lt-ltb, le-ltb, ne-eqb}
 use Rattle.language.specs.Meaning.{World, bind, assign, append, log-full}
-use Rattle.flat.specs.Words.{word, entry, functionOf, blockOf, sequenceOf, most-nesting}
-use Rattle.interpreter.specs.declared.Out.{Out}
+use Rattle.flat.specs.Words.{word, entry, functionOf, blockOf, sequenceOf}
 use Rattle.interpreter.specs.declared.Flow.{Flow}
 use Rattle.interpreter.specs.declared.Flow.the-variants as F
-use Rattle.interpreter.specs.Post.{world, Grows, Emits, finishes, Finishes, Heads, haltedOf, resultOf}
-use Rattle.interpreter.proofs.Lists.{Misses}
+use Rattle.interpreter.specs.Post.{world, Grows, Emits, finishes, Finishes, Heads}
 
 take-short : (c : ℕ) (ws : List ℕ) → length (take c ws) ≤ c
 take-short zero ws = omega arith

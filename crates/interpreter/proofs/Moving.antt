@@ -1,23 +1,21 @@
 -- What an item does to the operands in an activation's room.
 use mathlib.Core.Path.{_≡_, refl, sym, ap, _∙_}
 use mathlib.Core.List.{List, [], _∷_}
-use mathlib.Core.Bool.{Bool, true, false}
-use Prim.Native.Nat.{ℕ, zero, suc, _+_, _-_, _≤_, _<_, min}
+use Prim.Native.Nat.{ℕ, zero, suc, _+_, _-_, _≤_, _<_}
 use native.Mathlib.Numerals.{add-one}
 use native.Mathlib.Omega.{arith}
-use lib.ListN.{length, getD, take, drop, set, List·getD-eq-default, length-take}
-use lib.Seq.{getD-take, getD-set-same, getD-set-other, take-set-le, take-all}
+use lib.ListN.{length, getD, take, drop, set, List·getD-eq-default}
+use lib.Seq.{getD-take, getD-set-same, getD-set-other, take-set-le}
 use borrow.Author.Tests.{lt-ltb, le-ltb}
 use types.Run.{OneOf, miss}
 use denote.Enum.Declared.{tagOf}
 use Rattle.language.specs.Core.{Array}
-use Rattle.language.specs.Rules.{most-locals}
-use Rattle.language.specs.Meaning.{World, Result, goes, stops, trapped, outOfFuel, Act, bind, branch, read, fetch, index-outside}
-use Rattle.flat.specs.Items.{Kind, number, local, element, and, or, join, unknown, malformed, top, Onward, push, most-operands, step}
+use Rattle.language.specs.Meaning.{World, Result, Act, bind, read, fetch, index-outside}
+use Rattle.flat.specs.Items.{Kind, element, and, or, unknown, malformed, top, Onward, push, most-operands, step}
 use Rattle.flat.specs.Words.{kinds, kindOf, unaries, stricts}
 use Rattle.interpreter.specs.declared.Out.{Out}
 use Rattle.interpreter.specs.declared.Out.the-variants.{Goes, Trapped, OutOfFuel}
-use Rattle.interpreter.specs.Post.{operandsAt, valueOf, Strictly, Unarily, Frame, frame-words, onwards, Pushes, Moves}
+use Rattle.interpreter.specs.Post.{operandsAt, valueOf, Strictly, Unarily, Frame, onwards, Pushes, Moves}
 use Rattle.interpreter.proofs.Lists.{Misses, missed}
 use Rattle.interpreter.proofs.Out
 

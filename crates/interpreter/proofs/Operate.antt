@@ -1,20 +1,18 @@
 -- Operators by their numbers: what number means what, and what that gives.
-use mathlib.Core.Path.{_≡_, refl, sym, ap, _∙_}
-use mathlib.Core.List.{List, [], _∷_}
-use mathlib.Core.Bool.{Bool, true, false, not}
-use Prim.Native.Nat.{ℕ, zero, suc, _+_, _≤_}
-use native.Mathlib.Omega.{arith}
+use mathlib.Core.Path.{_≡_, ap, _∙_}
+use mathlib.Core.List.{List}
+use mathlib.Core.Bool.{Bool, not}
+use Prim.Native.Nat.{ℕ, _≤_}
 use lib.Dec.{eqb}
-use lib.ListN.{length, getD, drop, List·getD-eq-default}
+use lib.ListN.{getD, List·getD-eq-default}
 use borrow.Author.Tests.{eq-eqb, ne-eqb}
 use Rattle.word.specs.Word.{addW, subW, mulW, negW, quotS, remS, ltS, bitOf}
-use Rattle.language.specs.Tree.{Unary, negate, Strict, eq, ne, lt, le, gt, ge, add, sub, mul, div, rem}
-use Rattle.language.specs.Tree as T
-use Rattle.language.specs.Meaning.{World, Result, goes, stops, trapped, Act, bind, apply, operate, division-by-zero}
-use Rattle.flat.specs.Items.{Kind, unary, strict, unknown, malformed, top, Onward, push, step}
+use Rattle.language.specs.Tree.{Strict, eq, ne, lt, le, gt, ge, add, sub, mul, div, rem}
+use Rattle.language.specs.Meaning.{World, bind, apply, operate, division-by-zero}
+use Rattle.flat.specs.Items.{Kind, strict, unknown, malformed, step}
 use Rattle.flat.specs.Words.{unaries, stricts}
 use Rattle.interpreter.specs.declared.Out.{Out}
-use Rattle.interpreter.specs.declared.Out.the-variants.{Goes, Trapped, OutOfFuel}
+use Rattle.interpreter.specs.declared.Out.the-variants.{Goes, Trapped}
 use Rattle.interpreter.specs.Post.{valueOf, Strictly, Unarily}
 
 at : (n : ℕ) {j : ℕ} → j ≡ n → getD stricts j unknown ≡ getD stricts n unknown

@@ -6,23 +6,22 @@ use Prim.Native.Nat.{ℕ, zero, suc, _+_, _-_, _*_, _≤_, _<_}
 use native.Mathlib.Omega.{arith}
 use lib.Dec.{ltb, eqb}
 use lib.ListN.{length, getD, take, drop, set, replicate, length-drop, List·getD-eq-default}
-use lib.Seq.{drop-drop, take-suc, getD-drop, take-all, getD-append-add, take-append-le, length-take-le, getD-take, take-take, take-at}
+use lib.Seq.{drop-drop, take-suc, getD-drop, take-all, length-take-le, getD-take, take-take, take-at}
 use borrow.Author.Tests.{lt-ltb, le-ltb, le-leb, lt-leb, ltb-true, ltb-false, eq-eqb, ne-eqb}
 use types.Run.{OneOf, miss}
 use denote.Enum.Declared.{tagOf}
 use Rattle.word.specs.Choice.{pick}
-use Rattle.language.specs.Core.{Array}
 use Rattle.language.specs.Rules.{most-locals}
-use Rattle.language.specs.Meaning.{World, Result, goes, stops, trapped, outOfFuel, Act, bind, value, begin, begin-on, branch, write, index-outside, too-many-activations, Flow, next, returned, followed, rounds, back}
-use Rattle.flat.specs.Items.{Kind, call, Item, item, malformed, most-operands, begins, top, popped, Onward, push, step, scan, evaluate}
+use Rattle.language.specs.Meaning.{World, Result, goes, stops, outOfFuel, Act, bind, value, begin, begin-on, branch, write, index-outside, too-many-activations, Flow, next, followed, rounds, back}
+use Rattle.flat.specs.Items.{item, malformed, most-operands, begins, top, popped, Onward, step, scan, evaluate}
 use Rattle.flat.specs.Statements.{Stmt, fexec, fblock, fcallAt}
-use Rattle.flat.specs.Words.{word, item-words, kindOf, itemOf, itemsOf, header-words, first-end, first, second, statements, statementOf, sequenceOf, blockOf, most-nesting, functionOf}
+use Rattle.flat.specs.Words.{word, item-words, kindOf, itemOf, itemsOf, header-words, first-end, first, second, statements, statementOf, sequenceOf, blockOf, most-nesting}
 use Rattle.flat.specs.Statements as S
 use Rattle.interpreter.specs.declared.Out.{Out}
 use Rattle.interpreter.specs.declared.Out.the-variants.{Goes, Trapped, OutOfFuel}
 use Rattle.interpreter.specs.declared.Flow as D
 use Rattle.interpreter.specs.declared.Flow.the-variants as F
-use Rattle.interpreter.specs.Post.{operandsAt, valueOf, onwards, Pushes, Moves, invokeOf, Roomy, Callable, flows, haltedOf, resultOf, Steps, Enters, Calls, Scans, Blocks, Execs, Chooses, Stores, finishes, Finishes, Heads}
+use Rattle.interpreter.specs.Post.{operandsAt, valueOf, onwards, Pushes, Moves, invokeOf, flows, haltedOf, resultOf, Steps, Enters, Calls, Scans, Blocks, Execs, Chooses, Stores, finishes, Finishes, Heads}
 use Rattle.interpreter.proofs.Out
 use Rattle.interpreter.proofs.Flow as FlowProofs
 use Rattle.interpreter.proofs.Moving.{Stops, stop-on, drop-operands, length-operands, operands-same}

@@ -2,17 +2,15 @@
 -- An activation's room begins with its locals; its operands follow, and above those the room of the calls that it makes.
 use mathlib.Core.Path.{_≡_}
 use mathlib.Core.List.{List, [], _∷_}
-use mathlib.Core.Bool.{Bool, true, false}
 use Prim.Native.Nat.{ℕ, zero, suc, _+_, _*_, _≤_, _<_}
 use lib.Dec.{eqb}
 use lib.ListN.{length, getD, take, drop}
 use Rattle.word.specs.Choice.{pick}
 use Rattle.language.specs.Rules.{most-locals}
-use Rattle.language.specs.Core.{Array}
-use Rattle.language.specs.Meaning.{World, Result, goes, stops, Stop, trapped, outOfFuel, Act, bind, _>>_, value, branch, write, assign, append, Flow, next, returned, Outcome, finished, stopped, Run}
+use Rattle.language.specs.Meaning.{World, Result, goes, stops, trapped, outOfFuel, Act, bind, _>>_, value, branch, write, assign, append, Flow, next, returned, Outcome, finished, stopped, most-activations}
 use Rattle.flat.specs.Items.{Kind, call, unknown, top, Onward, push, most-operands, step, scan, evaluate}
 use Rattle.flat.specs.Statements.{fexec, fblock, fcallAt}
-use Rattle.flat.specs.Words.{unaries, stricts, kindOf, itemsOf, word, a, b, first-count, second-count, first-end, second, statementOf, functionOf, blockOf, most-nesting, flatRun}
+use Rattle.flat.specs.Words.{unaries, stricts, itemsOf, word, a, b, first-count, second-count, first-end, second, statementOf, functionOf, blockOf, most-nesting, flatRun}
 use Rattle.interpreter.specs.declared.Out.{Out}
 use Rattle.interpreter.specs.declared.Out.the-variants.{Goes, Trapped, OutOfFuel}
 use Rattle.interpreter.specs.declared.Flow as D
@@ -46,7 +44,7 @@ pub record Unarily (op a : ℕ) (o : Out) : Type 0 where
 
 -- how many words of room an activation takes at most
 abbrev pub frame-words : ℕ
-frame-words = 388
+frame-words = most-locals + most-operands
 
 -- the room that an activation has for c locals and h operands
 pub record Frame (c h : ℕ) (work : List ℕ) : Type 0 where
@@ -173,7 +171,7 @@ pub record Heads (t : List ℕ) (f place statements lets : ℕ) : Type 0 where
 
 -- the room that 64 activations take
 abbrev pub working-room : ℕ
-working-room = 24832
+working-room = most-activations * frame-words
 
 abbrev pub outcomeOf : O.Outcome → Outcome
 outcomeOf E.Finished = finished

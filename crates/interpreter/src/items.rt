@@ -15,9 +15,7 @@ use crate::operators::strict;
 use crate::operators::unary;
 use crate::words::word;
 use flat::item;
-use flat::program;
-
-const INDEX_OUTSIDE: u32 = 2;
+use flat::trap;
 
 // What an item leaves: how far it came, how many items are skipped, how many operands there are.
 pub struct Move {
@@ -43,7 +41,7 @@ pub fn element(offset: u32, size: u32, work: &mut [u32], arrays: &[u32], c: usiz
         };
     }
     Move {
-        out: Out::Trapped(INDEX_OUTSIDE),
+        out: Out::Trapped(trap::INDEX_OUTSIDE),
         skip: 0,
         h,
     }
@@ -159,7 +157,7 @@ pub fn act(k: u32, a: u32, b: u32, work: &mut [u32], arrays: &[u32], c: usize, h
             h,
         },
         _ => Move {
-            out: Out::Trapped(program::MALFORMED),
+            out: Out::Trapped(trap::MALFORMED),
             skip: 0,
             h,
         },

@@ -15,9 +15,6 @@ pub mod items; // items that call nothing
 pub mod state; // what statements and calls change
 pub mod walk; // expressions, statements, blocks and calls
 
-// "more than 64 activations at once, main included" is trap 3.
-pub const MOST_ACTIVATIONS: u32 = 64;
-
 // The words of working room that so many activations take: 64 locals and 324 operands each.
 pub const WORKING_ROOM: usize = 24832;
 
@@ -76,7 +73,7 @@ pub fn run(
     let main = field(words, 0, program::MAIN);
     let r = call(
         words,
-        MOST_ACTIVATIONS,
+        program::MOST_ACTIVATIONS,
         main,
         0,
         work,

@@ -7,7 +7,7 @@ ghost use Rattle.interpreter.specs.Post.{Frame, operandsAt, Pushes};
 use crate::Out;
 use crate::words::word;
 use flat::item;
-use flat::program;
+use flat::trap;
 
 // What a push leaves: how far it came, and how many operands there are.
 pub struct Pushed {
@@ -54,7 +54,7 @@ pub fn push(work: &mut [u32], c: usize, h: usize, v: u32) -> Pushed
         };
     }
     Pushed {
-        out: Out::Trapped(program::MALFORMED),
+        out: Out::Trapped(trap::MALFORMED),
         h,
     }
 }

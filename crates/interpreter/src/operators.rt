@@ -3,7 +3,7 @@ ghost use mathlib.Core.Path.{_≡_};
 ghost use Rattle.interpreter.specs.Post.{Strictly, Unarily};
 use crate::Out;
 use flat::operator;
-use flat::program;
+use flat::trap;
 use word::arithmetic::add;
 use word::arithmetic::mul;
 use word::arithmetic::neg;
@@ -12,8 +12,6 @@ use word::division::quotient_signed;
 use word::division::remainder_signed;
 use word::order::bit_of;
 use word::order::less_signed;
-
-const DIVISION_BY_ZERO: u32 = 1;
 
 // With two sides.
 pub fn strict(op: u32, a: u32, b: u32) -> Out
@@ -30,16 +28,16 @@ pub fn strict(op: u32, a: u32, b: u32) -> Out
         operator::SUB => Out::Goes(sub(a, b)),
         operator::MUL => Out::Goes(mul(a, b)),
         operator::DIV => if b == 0 {
-            Out::Trapped(DIVISION_BY_ZERO)
+            Out::Trapped(trap::DIVISION_BY_ZERO)
         } else {
             Out::Goes(quotient_signed(a, b))
         },
         operator::REM => if b == 0 {
-            Out::Trapped(DIVISION_BY_ZERO)
+            Out::Trapped(trap::DIVISION_BY_ZERO)
         } else {
             Out::Goes(remainder_signed(a, b))
         },
-        _ => Out::Trapped(program::MALFORMED),
+        _ => Out::Trapped(trap::MALFORMED),
     }
 }
 
@@ -50,6 +48,6 @@ pub fn unary(op: u32, a: u32) -> Out
     match op {
         operator::NEGATE => Out::Goes(neg(a)),
         operator::NOT => Out::Goes(bit_of(a == 0)),
-        _ => Out::Trapped(program::MALFORMED),
+        _ => Out::Trapped(trap::MALFORMED),
     }
 }

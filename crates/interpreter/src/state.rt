@@ -10,8 +10,7 @@ use crate::words::field;
 use crate::words::put;
 use flat::program;
 use flat::statement;
-
-const LOG_FULL: u32 = 4;
+use flat::trap;
 
 // Sets local x, if there is one.
 pub fn assign(work: &mut [u32], c: usize, x: u32, v: u32)
@@ -42,7 +41,7 @@ pub fn emit(log: &mut [u32], room: usize, logged: usize, v: u32) -> Emitted
         };
     }
     Emitted {
-        flow: Flow::Trapped(LOG_FULL),
+        flow: Flow::Trapped(trap::LOG_FULL),
         logged,
     }
 }

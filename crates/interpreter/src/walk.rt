@@ -1,5 +1,13 @@
 // Expressions, statements, blocks and calls, each by a scan forward over its words. The cycle of calls goes down by the activations that may still
-// be made, then by how deep blocks may still nest.
+// be made, then by how deep blocks may still nest. What all have in common:
+//   words                what is run
+//   left                 how many more activations may be made
+//   depth                how deep blocks may still nest
+//   p, n                 where the words of what is done begin, and how many items or statements it has
+//   c, h                 how many locals this activation has, and how many operands
+//   work                 its room: locals, operands, and above them the room of those that it makes
+//   arrays, log, room    the elements of all arrays; the log's buffer, and how much of it may be used
+//   fuel, logged         the fuel that is left, and how many words are logged
 ghost use mathlib.Core.Path.{_≡_};
 ghost use Prim.Native.Nat.{_<_, _≤_};
 ghost use lib.ListN.{take, drop, getD};
@@ -18,13 +26,7 @@ use crate::words::put;
 use flat::item;
 use flat::program;
 use flat::statement;
-
-const INDEX_OUTSIDE: u32 = 2;
-
-const TOO_MANY_ACTIVATIONS: u32 = 3;
-
-// Document 01 §4: "64 parameters and lets together per function".
-const MOST_LOCALS: usize = 64;
+use flat::trap;
 
 // How far an expression or a call came, the fuel that is left and how many words are logged.
 pub struct Value {
@@ -76,15 +78,15 @@ pub fn call(
     ensures { λ r. ⌜ Grows room logged (now (log .entry)) (r .logged) (now (log .exit)) ⌝ }
 {
     if left == 0 {
-        let out = Out::Trapped(TOO_MANY_ACTIVATIONS);
+        let out = Out::Trapped(trap::TOO_MANY_ACTIVATIONS);
         return Value { out, fuel, logged };
     }
     let g = state::function(words, f);
     let place = g.place;
     let n1 = g.statements;
     let c = n as usize + g.lets as usize;
-    if MOST_LOCALS < c {
-        let out = Out::Trapped(program::MALFORMED);
+    if program::MOST_LOCALS < c {
+        let out = Out::Trapped(trap::MALFORMED);
         return Value { out, fuel, logged };
     }
     state::clear(work, n as usize, c);
@@ -131,7 +133,7 @@ fn enter(
     ensures { λ r. ⌜ Grows room logged (now (log .entry)) (r .logged) (now (log .exit)) ⌝ }
 {
     if h < n as usize {
-        let out = Out::Trapped(program::MALFORMED);
+        let out = Out::Trapped(trap::MALFORMED);
         return Entered {
             out,
             h,
@@ -532,7 +534,7 @@ fn store(
         };
     }
     Done {
-        flow: Flow::Trapped(INDEX_OUTSIDE),
+        flow: Flow::Trapped(trap::INDEX_OUTSIDE),
         fuel,
         logged,
     }
@@ -640,7 +642,7 @@ fn stmt(
         };
     }
     if statement::RUN < k {
-        let flow = Flow::Trapped(program::MALFORMED);
+        let flow = Flow::Trapped(trap::MALFORMED);
         return Done { flow, fuel, logged };
     }
     valued(
