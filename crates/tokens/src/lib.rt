@@ -1,0 +1,1 @@
+// Document 01 §2: the tokens of a text.
