@@ -1,0 +1,1 @@
+// Document 01 §3: from the tokens of a text to its tree.
