@@ -1,2 +1,3 @@
 pub mod TokenKinds
 pub mod Sound
+pub mod Complete

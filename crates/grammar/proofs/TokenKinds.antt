@@ -215,3 +215,25 @@ unfolding levelIn
 row-found [] k l = λ e h. absurd (omega arith)
 row-found (r ∷ rs) k l = pickG (λ (v : ℕ). v ≡ l → 0 < l → Row (r ∷ rs) k l) (eqb (signKind (r .spelt)) k) (r .level) (levelIn rs k)
     (λ t e h. row-here r rs k l t e) (λ t e h. row-there r rs k l t (row-found rs k l e h))
+
+abbrev EachRow : (Operator → Type 0) → List Operator → Type 0
+EachRow P [] = Unit {0}
+EachRow P (r ∷ rs) = P r × EachRow P rs
+
+each-in : (P : Operator → Type 0) (r : Operator) (rs : List Operator) → EachRow P rs → In r rs → P r
+each-in P r (x ∷ rs) h (In.here e) = subst P (sym e) (h .0)
+each-in P r (x ∷ rs) h (In.there i) = each-in P r rs (h .1) i
+
+abbrev Found : Operator → Type 0
+Found r = (levelOf (signKind (r .spelt)) ≡ r .level) × (meansOf (signKind (r .spelt)) ≡ r .means)
+
+rows : EachRow Found operators
+unfolding operators levelOf meansOf levelIn meansIn signKind
+rows = ((refl, refl), ((refl, refl), ((refl, refl), ((refl, refl), ((refl, refl), ((refl, refl), ((refl, refl), ((refl, refl), ((refl, refl), ((refl, refl), ((refl, refl), ((refl, refl), ((refl, refl), tt)))))))))))))
+
+-- a row is found by its sign's kind
+pub row-level : {s : Sign} {l : ℕ} {o : Binary} → In (op s l o) operators → levelOf (signKind s) ≡ l
+row-level {s} {l} {o} h = each-in Found (op s l o) operators rows h .0
+
+pub row-means : {s : Sign} {l : ℕ} {o : Binary} → In (op s l o) operators → meansOf (signKind s) ≡ o
+row-means {s} {l} {o} h = each-in Found (op s l o) operators rows h .1
