@@ -1,3 +1,4 @@
 pub mod TokenKinds
 pub mod Sound
 pub mod Complete
+pub mod FlatLaws

@@ -1,1 +1,2 @@
 pub mod Parse
+pub mod Flat
