@@ -3,3 +3,7 @@ pub mod Tables
 pub mod Steps
 pub mod Sound
 pub mod Complete
+pub mod Scan
+pub mod Words
+pub mod Looks
+pub mod Going

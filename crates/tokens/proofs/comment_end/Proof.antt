@@ -1,0 +1,55 @@
+-- `comment_end` meets its contract: from where the loop is, the span still ends at the same byte.
+use mathlib.Core.Path.{_≡_, sym, refl, _∙_, ap}
+use Prim.Native.Nat.{ℕ, _+_, _-_, _≤_, _<_}
+use native.Mathlib.Omega.{arith}
+use lib.ListN.{length, drop}
+use Rattle.language.specs.Tokens.{inComment, span}
+use Rattle.tokens.proofs.Scan.{span-on, span-off, span-out}
+use Rattle.tokens.proofs.comment_end.Statement.{statement}
+use Rattle.tokens.proofs.comment_end.Tie as tie
+use borrow.Author.Needs.{needs}
+
+abbrev Inv-loop : tie.InvT-loop
+Inv-loop text from i₀ i = (from + length (span inComment (drop from text)) ≡ i + length (span inComment (drop i text))) × (i ≤ length text)
+
+abbrev μ-loop : tie.MeasureT-loop
+μ-loop text from i₀ i = length text - i
+
+loop-holds : tie.Need-loop-holds Inv-loop μ-loop
+loop-holds c = (refl, c .before .pre)
+
+shared-slice-read-in-comment : tie.Need-shared-slice-read-in-comment Inv-loop μ-loop
+shared-slice-read-in-comment c = search needs
+
+in-comment-requires : tie.Need-in-comment-requires Inv-loop μ-loop
+in-comment-requires c κs = search needs
+
+add-i : tie.Need-add-i Inv-loop μ-loop
+add-i c = search needs
+
+loop-less : tie.Need-loop-less Inv-loop μ-loop
+loop-less c = search needs
+
+loop-again : tie.Need-loop-again Inv-loop μ-loop
+loop-again c = (span-on inComment _ _ _ (c .before .before .before .before .loop .inv .0) (c .before .before .before .loop-test .taken) (sym (c .before .in-comment .ensures) ∙ c .if1 .taken), omega arith)
+
+returns : tie.Need-returns Inv-loop μ-loop
+returns c = (span-off inComment _ _ _ (c .before .before .before .before .loop .inv .0) (c .before .before .before .loop-test .taken) (sym (c .before .in-comment .ensures) ∙ c .if1 .left), c .before .before .before .before .loop .inv .1)
+
+returns-2 : tie.Need-returns-2 Inv-loop μ-loop
+returns-2 c = (span-out inComment _ _ _ (c .before .loop .inv .0) (c .loop-test .left), c .before .loop .inv .1)
+
+pub comment-end-spec : {M : Type 1} → statement M
+comment-end-spec =
+    tie.close
+    (tie.spec
+    Inv-loop
+    μ-loop
+    loop-holds
+    shared-slice-read-in-comment
+    in-comment-requires
+    add-i
+    loop-less
+    loop-again
+    returns
+    returns-2)
