@@ -7,7 +7,7 @@ use native.Mathlib.Omega.{arith}
 use lib.ListN.{length, length-append}
 use Rattle.language.specs.Tree.{Place, Name, Ty, Unary, Binary, Expr, Args, Stmt, Block, Param, Item}
 use Rattle.grammar.specs.Parse.{Tail, grow}
-use Rattle.grammar.specs.Flat.{item, item-words, size, sizes, exprWords, argsWords, argCount, header, runWords, stmtWords, blockWords, paramsWords, typeNumber, itemWords, itemsWords, strictNumber, number-item, name-item, element-item, call-item, unary-item, unaryNumber, strict-item, and-item, or-item, join-item}
+use Rattle.grammar.specs.Flat.{item, item-words, size, sizes, exprWords, argsWords, rightWords, tailWords, argCount, header, runWords, stmtWords, blockWords, paramsWords, typeNumber, itemWords, itemsWords, strictNumber, number-item, name-item, element-item, call-item, unary-item, unaryNumber, strict-item, and-item, or-item, join-item}
 
 abbrev pub Linear : (List ℕ → List ℕ) → Type 0
 Linear w = (more : List ℕ) → w more ≡ w [] ++ more
@@ -42,33 +42,25 @@ mutual
   args-linear Args.none m = refl
   args-linear (Args.more e es) m = both (exprWords e) (argsWords es) (λ m. expr-linear e m) (λ m. args-linear es m) m
 
--- the operator and the right side
-abbrev pub rightWords : Place → Binary → Expr → List ℕ → List ℕ
-rightWords p Binary.or b more = item or-item p (size b) 0 (exprWords b (item join-item p 0 0 more))
-rightWords p Binary.and b more = item and-item p (size b) 0 (exprWords b (item join-item p 0 0 more))
-rightWords p (Binary.strict s) b more = exprWords b (item strict-item p (strictNumber s) 0 more)
-
 pub right-linear : (p : Place) (o : Binary) (b : Expr) → Linear (rightWords p o b)
+unfolding rightWords
 right-linear p Binary.or b m = item-then (λ m. exprWords b (item join-item p 0 0 m)) or-item p (size b) 0 (then-item (exprWords b) join-item p 0 0 (expr-linear b)) m
 right-linear p Binary.and b m = item-then (λ m. exprWords b (item join-item p 0 0 m)) and-item p (size b) 0 (then-item (exprWords b) join-item p 0 0 (expr-linear b)) m
 right-linear p (Binary.strict s) b m = then-item (exprWords b) strict-item p (strictNumber s) 0 (expr-linear b) m
 
 pub binary-words : (p : Place) (o : Binary) (a b : Expr) (m : List ℕ) → exprWords (Expr.binary p o a b) m ≡ exprWords a (rightWords p o b m)
-unfolding exprWords
+unfolding exprWords rightWords
 binary-words p Binary.or a b m = refl
 binary-words p Binary.and a b m = refl
 binary-words p (Binary.strict s) a b m = refl
 
-abbrev pub tailWords : Tail → List ℕ → List ℕ
-tailWords Tail.done more = more
-tailWords (Tail.more p o b r) more = rightWords p o b (tailWords r more)
-
 pub tail-linear : (r : Tail) → Linear (tailWords r)
+unfolding tailWords
 tail-linear Tail.done m = refl
 tail-linear (Tail.more p o b r) m = both (rightWords p o b) (tailWords r) (right-linear p o b) (tail-linear r) m
 
 pub grow-words : (r : Tail) (a : Expr) (m : List ℕ) → exprWords (grow a r) m ≡ exprWords a (tailWords r m)
-unfolding grow
+unfolding grow tailWords
 grow-words Tail.done a m = refl
 grow-words (Tail.more p o b r) a m = grow-words r (Expr.binary p o a b) m ∙ binary-words p o a b (tailWords r m)
 

@@ -6,7 +6,8 @@ use mathlib.Core.Option.{Option, Option·map, Option·some-injective}
 use Prim.Native.Nat.{ℕ, zero, suc, _+_, _≤_, _<_}
 use native.Mathlib.Omega.{arith}
 use lib.Dec.{eqb}
-use lib.ListN.{getD}
+use native.Mathlib.Decide.{decLt}
+use lib.ListN.{length, getD, List·getD-eq-default}
 use borrow.Author.Tests.{eqb-true, eqb-false, eq-eqb, ne-eqb}
 use Rattle.word.specs.Choice.{pick}
 use Rattle.language.specs.Tree.{Place, Name, Binary}
@@ -18,17 +19,19 @@ use Rattle.grammar.specs.Parse.{kindIn, placeIn, nameIn, nameOf, numberI
 
 -- The sign and the word of a kind.
 
-asSign : ℕ → Option Sign
-asSign k =
-    getD
-    (Option.none ∷ Option.none ∷ Option.none
+signTable : List (Option Sign)
+signTable =
+    Option.none ∷ Option.none ∷ Option.none
     ∷ Option.some Sign.double-equals ∷ Option.some Sign.bang-equals ∷ Option.some Sign.less-equals ∷ Option.some Sign.greater-equals
     ∷ Option.some Sign.double-ampersand ∷ Option.some Sign.double-bar ∷ Option.some Sign.plus ∷ Option.some Sign.minus ∷ Option.some Sign.star
     ∷ Option.some Sign.slash ∷ Option.some Sign.percent ∷ Option.some Sign.less ∷ Option.some Sign.greater ∷ Option.some Sign.equals
     ∷ Option.some Sign.bang ∷ Option.some Sign.left-paren ∷ Option.some Sign.right-paren ∷ Option.some Sign.left-brace
     ∷ Option.some Sign.right-brace ∷ Option.some Sign.left-bracket ∷ Option.some Sign.right-bracket ∷ Option.some Sign.colon
-    ∷ Option.some Sign.semicolon ∷ Option.some Sign.comma ∷ [])
-    k Option.none
+    ∷ Option.some Sign.semicolon ∷ Option.some Sign.comma ∷ []
+
+asSign : ℕ → Option Sign
+unfolding signTable
+asSign k = getD signTable k Option.none
 
 asWord : ℕ → Option Word
 asWord k =
@@ -126,6 +129,14 @@ word-no-sign Word.false = refl
 
 no-some : {A : Type 0} {a : A} → Option.none ≡ Option.some a → ⊥
 no-some {A} {a} q = let z : _≡_ {A = ℕ} 0 1 = cc in omega arith
+
+-- a sign's kind is below a word's
+pub sign-low : (s : Sign) → signKind s < 27
+unfolding asSign signTable
+sign-low s = elim (decLt (signKind s) 27) [
+  | yes p ↦ p
+  | no p ↦ let h : length signTable ≤ signKind s = omega arith in absurd (no-some (sym (List·getD-eq-default signTable Option.none h) ∙ sign-back s))
+]
 
 -- From kinds to tokens.
 

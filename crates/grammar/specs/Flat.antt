@@ -109,6 +109,16 @@ unfoldable mutual
   argsWords Args.none more = more
   argsWords (Args.more e es) more = exprWords e (argsWords es more)
 
+-- an operator and its right side, after the left side
+unfoldable pub rightWords : Place → Binary → Expr → List ℕ → List ℕ
+rightWords p Binary.or b more = item or-item p (size b) 0 (exprWords b (item join-item p 0 0 more))
+rightWords p Binary.and b more = item and-item p (size b) 0 (exprWords b (item join-item p 0 0 more))
+rightWords p (Binary.strict s) b more = exprWords b (item strict-item p (strictNumber s) 0 more)
+
+unfoldable pub tailWords : Tail → List ℕ → List ℕ
+tailWords Tail.done more = more
+tailWords (Tail.more p o b r) more = rightWords p o b (tailWords r more)
+
 -- Statements. A statement is a header of eight words, then its expressions and its blocks, one after the other. The header's words: 0 its kind's
 -- number, 1 the place where it is reported, 2 its name's length or how many words its first block has, 3 and 4 how many items its first and its
 -- second expression have, 5 and 6 how many statements its first and its second block have, 7 how many words follow the header.
