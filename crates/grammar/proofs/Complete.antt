@@ -190,7 +190,7 @@ module _ (tok : ℕ → Option Placed) where
 
   -- One step of the parser.
 
-  step : (h l d i : ℕ) → 0 < h → levelled tok h l d i ≡ pick (ltb l unary-level) (next (levelled tok (h - 1) (l + 1) d i) (λ a j. map (grow a) (restOf tok (levelled tok (h - 1)) (most l) l d j))) (primaryOf tok (levelled tok (h - 1)) d i)
+  pub step : (h l d i : ℕ) → 0 < h → levelled tok h l d i ≡ pick (ltb l unary-level) (next (levelled tok (h - 1) (l + 1) d i) (λ a j. map (grow a) (restOf tok (levelled tok (h - 1)) (most l) l d j))) (primaryOf tok (levelled tok (h - 1)) d i)
   unfolding levelled
   step zero l d i z = absurd (omega arith)
   step (suc h) l d i z = let q : h ≡ suc h - 1 = omega arith in ap (λ (g : ℕ). pick (ltb l unary-level) (next (levelled tok g (l + 1) d i) (λ a j. map (grow a) (restOf tok (levelled tok g) (most l) l d j))) (primaryOf tok (levelled tok g) d i)) q
@@ -212,7 +212,7 @@ module _ (tok : ℕ → Option Placed) where
     unfolding primaryOf namedOf kindIn kindOf placeIn nameIn nameOf
     c-name {j} h e f = rw (h, ne-eqb (kind tok (i + 1)) (signKind Sign.left-bracket) (λ q. f .bracket (ap (kind tok) e ∙ q)), ne-eqb (kind tok (i + 1)) (signKind Sign.left-paren) (λ q. f .paren (ap (kind tok) e ∙ q)), e)
 
-    c-enclosed : (s : Sign) {j k : ℕ} {e : Expr} → d < most-open → sub expr-level (d + 1) (i + 1) ≡ ok e j → HasSign tok j s → k ≡ j + 1 → enclosedOf tok sub s d i ≡ ok e k
+    c-enclosed : (s : Sign) {j k : ℕ} {e : Expr} → d < most-open → sub expr-level (d + 1) (i + 1) ≡ ok e j → HasSign tok j s → k ≡ j + 1 → enclosedOf tok sub (signKind s) d i ≡ ok e k
     unfolding enclosedOf
     c-enclosed s {j} z x c e = rw (lt-ltb d most-open z, x, eq-eqb (kind tok j) (signKind s) (sign-kind j c), e)
 
@@ -220,7 +220,7 @@ module _ (tok : ℕ → Option Placed) where
     unfolding argumentsOf
     c-arguments {j} z x c e = rw (lt-ltb d most-open z, x, eq-eqb (kind tok j) (signKind Sign.right-paren) (sign-kind j c), e)
 
-    c-element : {k : ℕ} {x : Name} {p : Place} {e : Expr} → At tok i (Token.name x) p → HasSign tok (i + 1) Sign.left-bracket → enclosedOf tok sub Sign.right-bracket d (i + 1) ≡ ok e k → primaryOf tok sub d i ≡ ok (Expr.element p x e) k
+    c-element : {k : ℕ} {x : Name} {p : Place} {e : Expr} → At tok i (Token.name x) p → HasSign tok (i + 1) Sign.left-bracket → enclosedOf tok sub (signKind Sign.right-bracket) d (i + 1) ≡ ok e k → primaryOf tok sub d i ≡ ok (Expr.element p x e) k
     unfolding primaryOf namedOf kindIn kindOf placeIn nameIn nameOf
     c-element h b x = rw (h, eq-eqb (kind tok (i + 1)) (signKind Sign.left-bracket) (sign-kind (i + 1) b), x)
 
@@ -228,7 +228,7 @@ module _ (tok : ℕ → Option Placed) where
     unfolding primaryOf namedOf kindOf nameIn nameOf placeIn signKind
     c-call h b x = rw (at-name h, sign-kind (i + 1) b, h, x)
 
-    c-parens : {k : ℕ} {e : Expr} → HasSign tok i Sign.left-paren → enclosedOf tok sub Sign.right-paren d i ≡ ok e k → primaryOf tok sub d i ≡ ok e k
+    c-parens : {k : ℕ} {e : Expr} → HasSign tok i Sign.left-paren → enclosedOf tok sub (signKind Sign.right-paren) d i ≡ ok e k → primaryOf tok sub d i ≡ ok e k
     unfolding primaryOf signKind wordKind
     c-parens b x = rw (sign-kind i b, x)
 
@@ -280,10 +280,10 @@ module _ (tok : ℕ → Option Placed) where
   unfolding signKind
   no-comma k a b = omega arith
 
-  prim-step : (h d i : ℕ) → 0 < h → levelled tok h unary-level d i ≡ primaryOf tok (levelled tok (h - 1)) d i
+  pub prim-step : (h d i : ℕ) → 0 < h → levelled tok h unary-level d i ≡ primaryOf tok (levelled tok (h - 1)) d i
   prim-step h d i z = step h unary-level d i z
 
-  chain-step : (h l d i : ℕ) → 0 < h → l < unary-level → levelled tok h l d i ≡ next (levelled tok (h - 1) (l + 1) d i) (λ a j. map (grow a) (restOf tok (levelled tok (h - 1)) (most l) l d j))
+  pub chain-step : (h l d i : ℕ) → 0 < h → l < unary-level → levelled tok h l d i ≡ next (levelled tok (h - 1) (l + 1) d i) (λ a j. map (grow a) (restOf tok (levelled tok (h - 1)) (most l) l d j))
   chain-step h l d i z lt = step h l d i z ∙ ap (λ (b : Bool). pick b (next (levelled tok (h - 1) (l + 1) d i) (λ a j. map (grow a) (restOf tok (levelled tok (h - 1)) (most l) l d j))) (primaryOf tok (levelled tok (h - 1)) d i)) (lt-ltb l unary-level lt)
 
   record RestDone (h n l d i k : ℕ) (a e : Expr) : Type 0 where

@@ -4,3 +4,5 @@ pub mod Complete
 pub mod FlatLaws
 pub mod Tables
 pub mod Writes
+pub mod Steps
+pub mod ExprLaws

@@ -140,7 +140,7 @@ module _ (tok : ℕ → Option Placed) where
         openingG (Arguments d i) d i _ (λ h. nextG (ArgsIs (d + 1) (i + 1)) (Arguments d i) (argsOf tok sub (d + 1) (i + 1)) _ (args-sound (d + 1) (i + 1)) (λ es j x.
         expectG (Arguments d i) j Sign.right-paren _ (λ c. record { depth = h; end = j; inside = x; close = c; after = refl })))
 
-    enclosed-sound : (s : Sign) (d i : ℕ) → Good (Enclosed s d i) (enclosedOf tok sub s d i)
+    enclosed-sound : (s : Sign) (d i : ℕ) → Good (Enclosed s d i) (enclosedOf tok sub (signKind s) d i)
     unfolding enclosedOf
     enclosed-sound s d i =
         openingG (Enclosed s d i) d i _ (λ h. nextG (ExprIs expr-level (d + 1) (i + 1)) (Enclosed s d i) (sub expr-level (d + 1) (i + 1)) _ (S expr-level (d + 1) (i + 1) (omega arith) (omega arith)) (λ e j x.
@@ -153,7 +153,7 @@ module _ (tok : ℕ → Option Placed) where
     unfolding namedOf
     named-sound d i h =
         signG (ExprIs unary-level d i) (i + 1) Sign.left-bracket _ _
-        (λ b. mapG (Enclosed Sign.right-bracket d (i + 1)) (ExprIs unary-level d i) (enclosedOf tok sub Sign.right-bracket d (i + 1)) _ (enclosed-sound Sign.right-bracket d (i + 1)) (λ e k x.
+        (λ b. mapG (Enclosed Sign.right-bracket d (i + 1)) (ExprIs unary-level d i) (enclosedOf tok sub (signKind Sign.right-bracket) d (i + 1)) _ (enclosed-sound Sign.right-bracket d (i + 1)) (λ e k x.
         IsExpr.element h (has b) (x .depth) (subst (λ (m : ℕ). IsExpr tok expr-level (d + 1) m (x .end) e) (two i) (x .inside)) (x .close) (x .after)))
         (signG (ExprIs unary-level d i) (i + 1) Sign.left-paren _ _
         (λ b. mapG (Arguments d (i + 1)) (ExprIs unary-level d i) (argumentsOf tok sub d (i + 1)) _ (arguments-sound d (i + 1)) (λ es k x.
@@ -185,7 +185,7 @@ module _ (tok : ℕ → Option Placed) where
         (nameG (ExprIs unary-level d i) i _ _ (λ h. named-sound d i h)
         (wordG (ExprIs unary-level d i) i Word.true _ _ (λ h. IsExpr.true (has h) refl)
         (wordG (ExprIs unary-level d i) i Word.false _ _ (λ h. IsExpr.false (has h) refl)
-        (signG (ExprIs unary-level d i) i Sign.left-paren _ _ (λ h. parens-sound d i h (enclosedOf tok sub Sign.right-paren d i) (enclosed-sound Sign.right-paren d i))
+        (signG (ExprIs unary-level d i) i Sign.left-paren _ _ (λ h. parens-sound d i h (enclosedOf tok sub (signKind Sign.right-paren) d i) (enclosed-sound Sign.right-paren d i))
         (signG (ExprIs unary-level d i) i Sign.minus _ _ (λ h. unary-sound Unary.negate Sign.minus d i minus-row h)
         (signG (ExprIs unary-level d i) i Sign.bang _ _ (λ h. unary-sound Unary.not Sign.bang d i bang-row h) tt))))))
 

@@ -162,14 +162,14 @@ module _ (tok : ℕ → Option Placed) where
     unfoldable pub argumentsOf : ℕ → ℕ → Out Args
     argumentsOf d i = opening d i (next (argsOf (d + 1) (i + 1)) (λ es j. expect j Sign.right-paren (ok es (j + 1))))
 
-    -- "(" expr ")" and "[" expr "]", by the sign that closes them
-    unfoldable pub enclosedOf : Sign → ℕ → ℕ → Out Expr
-    enclosedOf s d i = opening d i (next (sub expr-level (d + 1) (i + 1)) (λ e j. expect j s (ok e (j + 1))))
+    -- "(" expr ")" and "[" expr "]", by the kind of the sign that closes them
+    unfoldable pub enclosedOf : ℕ → ℕ → ℕ → Out Expr
+    enclosedOf s d i = opening d i (next (sub expr-level (d + 1) (i + 1)) (λ e j. pick (eqb (kind j) s) (ok e (j + 1)) (bad j)))
 
     -- name | name "[" expr "]" | name "(" [ expr { "," expr } ] ")"
     unfoldable pub namedOf : ℕ → ℕ → Out Expr
     namedOf d i =
-        pick (isSign (i + 1) Sign.left-bracket) (map (Expr.element (placeOf i) (nameAt i)) (enclosedOf Sign.right-bracket d (i + 1)))
+        pick (isSign (i + 1) Sign.left-bracket) (map (Expr.element (placeOf i) (nameAt i)) (enclosedOf (signKind Sign.right-bracket) d (i + 1)))
         (pick (isSign (i + 1) Sign.left-paren) (map (Expr.call (placeOf i) (nameAt i)) (argumentsOf d (i + 1)))
         (ok (Expr.name (placeOf i) (nameAt i)) (i + 1)))
 
@@ -184,7 +184,7 @@ module _ (tok : ℕ → Option Placed) where
         (pick (isName i) (namedOf d i)
         (pick (isWord i Word.true) (ok (Expr.truth true) (i + 1))
         (pick (isWord i Word.false) (ok (Expr.truth false) (i + 1))
-        (pick (isSign i Sign.left-paren) (enclosedOf Sign.right-paren d i)
+        (pick (isSign i Sign.left-paren) (enclosedOf (signKind Sign.right-paren) d i)
         (pick (isSign i Sign.minus) (unaryOf Unary.negate d i)
         (pick (isSign i Sign.bang) (unaryOf Unary.not d i)
         (bad i)))))))
@@ -201,7 +201,7 @@ module _ (tok : ℕ → Option Placed) where
   exprOf d i = levelled expr-steps expr-level d i
 
   unfoldable pub indexOf : ℕ → ℕ → Out Expr
-  indexOf d i = enclosedOf (levelled expr-steps) Sign.right-bracket d i
+  indexOf d i = enclosedOf (levelled expr-steps) (signKind Sign.right-bracket) d i
 
   unfoldable pub callOf : ℕ → ℕ → Out Args
   callOf d i = argumentsOf (levelled expr-steps) d i

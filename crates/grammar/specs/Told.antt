@@ -2,15 +2,15 @@
 use mathlib.Core.Path.{_≡_}
 use mathlib.Core.List.{List, []}
 use mathlib.Core.Option.{Option}
-use Prim.Native.Nat.{ℕ, _+_, _*_, _≤_}
-use lib.Dec.{ltb}
+use Prim.Native.Nat.{ℕ, _+_, _*_, _≤_, _<_}
+use lib.Dec.{ltb, eqb}
 use lib.ListN.{length, getD}
 use lib.Seq.{sets}
 use Rattle.word.specs.Choice.{pick}
-use Rattle.language.specs.Tree.{Place, Ty, Binary, Expr, Args, Stmt, Block, Param, Item}
+use Rattle.language.specs.Tree.{Place, Ty, Unary, Binary, Expr, Args, Stmt, Block, Param, Item}
 use Rattle.language.specs.Tokens.{Placed}
 use Rattle.tokens.specs.Kinds.{valueOf, words-per-token}
-use Rattle.grammar.specs.Parse.{Out, Out.ok, Out.bad, kindIn, placeIn, Tail, many, meansOf}
+use Rattle.grammar.specs.Parse.{Out, Out.ok, Out.bad, map, kindIn, placeIn, Tail, many, meansOf}
 use Rattle.grammar.specs.Flat.{argCount, exprWords, argsWords, stmtWords, blockWords, paramsWords, itemWords, itemsWords, count, typeNumber, resultNumber, rightWords, tailWords, words-for-token}
 use Rattle.grammar.specs.declared.Got.{Got}
 use Rattle.grammar.specs.declared.Got.the-variants.{Done, Fault}
@@ -47,6 +47,10 @@ pub record Right : Type 0 where
   pub place : Place
   pub operator : Binary
   pub side : Expr
+
+-- the operator at token i, of level l, and its right side
+unfoldable pub operandOf : Row → (ℕ → ℕ → ℕ → Out Expr) → ℕ → ℕ → ℕ → Out Right
+operandOf tok sub l d i = map (λ b. record { place = placeIn (tok i); operator = meansOf (kindIn (tok i)); side = b }) (sub (l + 1) d (i + 1))
 
 abbrev pub right-form : Form Right
 right-form = record { words = λ r. rightWords (r .place) (r .operator) (r .side) []; tells = λ _. 1 }
@@ -92,10 +96,12 @@ pub record Says {A : Type 0} (F : Form A) (o : Out A) (xs : List ℕ) (at j e c 
   pub end : e ≡ at + length (F .words value)
   pub buffer : ys ≡ sets xs at (F .words value)
 
--- so it is for every row of tokens that the words hold; and what is written is paid for by the tokens that were read
+-- so it is for every row of tokens that the words hold; what is written is paid for by the tokens that were read, and what is told fits a word
 pub record Found {A : Type 0} (F : Form A) (f : Row → Out A) (ts : List ℕ) (n : ℕ) (xs : List ℕ) (i at j e c : ℕ) (ys : List ℕ) : Type 0 where
   pub within : j ≤ n
   pub small : e + words-for-token * i ≤ at + words-for-token * j
+  pub onward : at ≤ e
+  pub fits : c < 4294967296
   pub says : (tok : Row) → Holds tok ts n → Says F (f tok) xs at j e c ys
 
 abbrev pub Case : {A : Type 0} → Form A → (Row → Out A) → List ℕ → ℕ → List ℕ → ℕ → ℕ → Got → List ℕ → Type 0
@@ -111,6 +117,10 @@ pub record Room (ts : List ℕ) (n : ℕ) (xs : List ℕ) (i at : ℕ) : Type 0 
   pub held : words-per-token * n ≤ length ts
   pub begins : i ≤ n
   pub free : at + words-for-token * n ≤ length xs + words-for-token * i
+
+-- the unary operator of a number
+unfoldable pub unaryAt : ℕ → Unary
+unaryAt o = pick (eqb o 0) Unary.negate Unary.not
 
 -- The operators' table, as the flat form has it: the item's kind and the operator's number
 

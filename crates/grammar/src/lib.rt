@@ -4,8 +4,8 @@ ghost use mathlib.Core.List.{[], _∷_};
 ghost use Prim.Native.Nat.{ℕ, _+_, _*_, _≤_, _<_};
 ghost use lib.ListN.{length};
 ghost use lib.Seq.{sets};
-ghost use Rattle.grammar.specs.Parse.{levelOf, meansOf, most};
-ghost use Rattle.grammar.specs.Told.{fieldOf, itemKind, itemNumber};
+ghost use Rattle.grammar.specs.Parse.{levelOf, meansOf, most, levelled, restOf, exprsOf, argumentsOf, enclosedOf, namedOf, unaryOf, primaryOf};
+ghost use Rattle.grammar.specs.Told.{fieldOf, itemKind, itemNumber, operandOf, unaryAt, Told, Room, expr-form, right-form, tail-form, args-form};
 
 // How far it went: the next token, the next free word, and a number that the thing tells. Or the token at fault.
 pub enum Got {
@@ -14,18 +14,106 @@ pub enum Got {
 }
 
 // The levels of operators, document 01 §3, and the most of a level.
+const EXPR_LEVEL: u32 = 1;
+
 const COMP_LEVEL: u32 = 3;
+
+const UNARY_LEVEL: u32 = 6;
+
+// At most so many things may be open.
+const MOST_OPEN: u32 = 32;
+
 const MANY: usize = 65536;
 
 // By a token's kind: its level as an operator, 0 for none; its item's kind; its number. A row of the operators' table is an entry of each.
 const LEVELS: [u32; 27] = [
-    0, 0, 0, 3, 3, 3, 3, 2, 1, 4, 4, 5, 5, 5, 3, 3, 0, 0, 0, 0, 0, 0, 0, 0, 0, 0, 0,
+    0,
+    0,
+    0,
+    3,
+    3,
+    3,
+    3,
+    2,
+    1,
+    4,
+    4,
+    5,
+    5,
+    5,
+    3,
+    3,
+    0,
+    0,
+    0,
+    0,
+    0,
+    0,
+    0,
+    0,
+    0,
+    0,
+    0,
 ];
+
 const ITEM_KINDS: [u32; 27] = [
-    7, 7, 7, 5, 5, 5, 5, 6, 7, 5, 5, 5, 5, 5, 5, 5, 7, 7, 7, 7, 7, 7, 7, 7, 7, 7, 7,
+    7,
+    7,
+    7,
+    5,
+    5,
+    5,
+    5,
+    6,
+    7,
+    5,
+    5,
+    5,
+    5,
+    5,
+    5,
+    5,
+    7,
+    7,
+    7,
+    7,
+    7,
+    7,
+    7,
+    7,
+    7,
+    7,
+    7,
 ];
+
 const ITEM_NUMBERS: [u32; 27] = [
-    0, 0, 0, 0, 1, 3, 5, 0, 0, 6, 7, 8, 9, 10, 2, 4, 0, 0, 0, 0, 0, 0, 0, 0, 0, 0, 0,
+    0,
+    0,
+    0,
+    0,
+    1,
+    3,
+    5,
+    0,
+    0,
+    6,
+    7,
+    8,
+    9,
+    10,
+    2,
+    4,
+    0,
+    0,
+    0,
+    0,
+    0,
+    0,
+    0,
+    0,
+    0,
+    0,
+    0,
 ];
 
 // Word k of token i: its kind, its place, its value; 0 past the last.
@@ -33,7 +121,11 @@ fn field(ts: &[u32], n: usize, i: usize, k: usize) -> u32
     requires { ⌜ (3 * n ≤ length (now ts)) × (n ≤ 65536) × (k < 3) ⌝ }
     ensures { λ r. ⌜ (r ≡ fieldOf (now (ts .entry)) n i k) × (0 < r → i < n) ⌝ }
 {
-    if i < n { ts[tokens::TOKEN_WORDS * i + k] } else { 0 }
+    if i < n {
+        ts[tokens::TOKEN_WORDS * i + k]
+    } else {
+        0
+    }
 }
 
 // The level of a kind of token as an operator; 0 for none.
@@ -77,4 +169,308 @@ fn item(out: &mut [u32], at: usize, k: u32, p: u32, a: u32, b: u32) -> usize
     out[at + 2] = a;
     out[at + 3] = b;
     at + 4
+}
+
+// The kinds of items.
+const NUMBER_ITEM: u32 = 0;
+
+const NAME_ITEM: u32 = 1;
+
+const ELEMENT_ITEM: u32 = 2;
+
+const CALL_ITEM: u32 = 3;
+
+const UNARY_ITEM: u32 = 4;
+
+const STRICT_ITEM: u32 = 5;
+
+const JOIN_ITEM: u32 = 8;
+
+const TRUTH_ITEM: u32 = 9;
+
+const ITEM_WORDS: usize = 4;
+
+// An expression of level l: the first operand, and then the operators of the level.
+fn level(
+    ts: &[u32],
+    n: usize,
+    h: usize,
+    l: u32,
+    d: u32,
+    i: usize,
+    out: &mut [u32],
+    at: usize,
+) -> Got
+    requires { ⌜ (Room (now ts) n (now out) i at) × (0 < l) ⌝ }
+    ensures { λ r. ⌜ Told expr-form (λ tok. levelled tok h l d i) (now (ts .entry)) n (now (out .entry)) i at r (now (out .exit)) ⌝ }
+{
+    if h == 0 {
+        return Got::Fault(i);
+    }
+    if UNARY_LEVEL <= l {
+        return primary(ts, n, h - 1, d, i, out, at);
+    }
+    let first = level(ts, n, h - 1, l + 1, d, i, out, at);
+    match first {
+        Got::Done(j, e, _) => rest(ts, n, h - 1, most_of(l), l, d, j, out, e),
+        Got::Fault(p) => Got::Fault(p),
+    }
+}
+
+// { operator operand }, at most so many.
+fn rest(
+    ts: &[u32],
+    n: usize,
+    h: usize,
+    most: usize,
+    l: u32,
+    d: u32,
+    from: usize,
+    out: &mut [u32],
+    start: usize,
+) -> Got
+    requires { ⌜ (Room (now ts) n (now out) from start) × (0 < l) × (l < 6) ⌝ }
+    ensures { λ r. ⌜ Told tail-form (λ tok. restOf tok (levelled tok h) most l d from) (now (ts .entry)) n (now (out .entry)) from start r (now (out .exit)) ⌝ }
+{
+    let mut left = most;
+    let mut i = from;
+    let mut at = start;
+    while 0 < left {
+        let k = field(ts, n, i, 0);
+        if level_of(k) != l {
+            return Got::Done(i, at, 1);
+        }
+        let right = operand(ts, n, h, k, l, d, i, out, at);
+        match right {
+            Got::Done(j, e, _) => {
+                i = j;
+                at = e;
+            }
+            Got::Fault(p) => {
+                return Got::Fault(p);
+            }
+        }
+        left -= 1;
+    }
+    Got::Done(i, at, 1)
+}
+
+// An operator and its right side. Of `&&` and `||` the item stands before the right side, and is written when that is done.
+fn operand(
+    ts: &[u32],
+    n: usize,
+    h: usize,
+    k: u32,
+    l: u32,
+    d: u32,
+    i: usize,
+    out: &mut [u32],
+    at: usize,
+) -> Got
+    requires { ⌜ (Room (now ts) n (now out) i at) × (k ≡ fieldOf (now ts) n i 0) × (i < n) × (l < 6) ⌝ }
+    ensures { λ r. ⌜ Told right-form (λ tok. operandOf tok (levelled tok h) l d i) (now (ts .entry)) n (now (out .entry)) i at r (now (out .exit)) ⌝ }
+{
+    let p = field(ts, n, i, 1);
+    let what = item_kind(k);
+    if what == STRICT_ITEM {
+        let b = level(ts, n, h, l + 1, d, i + 1, out, at);
+        match b {
+            Got::Done(j, e, _) => {
+                return Got::Done(j, item(out, e, STRICT_ITEM, p, item_number(k), 0), 1);
+            }
+            Got::Fault(q) => {
+                return Got::Fault(q);
+            }
+        }
+    }
+    let b = level(ts, n, h, l + 1, d, i + 1, out, at + ITEM_WORDS);
+    match b {
+        Got::Done(j, e, _) => {
+            let f = item(
+                out,
+                at,
+                what,
+                p,
+                ((e - at - ITEM_WORDS) / ITEM_WORDS) as u32,
+                0,
+            );
+            Got::Done(j, item(out, e, JOIN_ITEM, p, 0, 0), 1)
+        }
+        Got::Fault(q) => Got::Fault(q),
+    }
+}
+
+// expr { "," expr }
+fn args(ts: &[u32], n: usize, h: usize, d: u32, from: usize, out: &mut [u32], start: usize) -> Got
+    requires { ⌜ Room (now ts) n (now out) from start ⌝ }
+    ensures { λ r. ⌜ Told args-form (λ tok. exprsOf tok (levelled tok h) 65536 d from) (now (ts .entry)) n (now (out .entry)) from start r (now (out .exit)) ⌝ }
+{
+    let mut left = MANY;
+    let mut c: usize = 0;
+    let mut i = from;
+    let mut at = start;
+    while 0 < left {
+        let a = level(ts, n, h, EXPR_LEVEL, d, i, out, at);
+        match a {
+            Got::Done(j, e, _) => {
+                if field(ts, n, j, 0) != tokens::COMMA {
+                    return Got::Done(j, e, c + 1);
+                }
+                i = j + 1;
+                at = e;
+                c += 1;
+            }
+            Got::Fault(p) => {
+                return Got::Fault(p);
+            }
+        }
+        left -= 1;
+    }
+    Got::Fault(i)
+}
+
+// "(" [ expr { "," expr } ] ")", from the parenthesis on.
+fn arguments(ts: &[u32], n: usize, h: usize, d: u32, i: usize, out: &mut [u32], at: usize) -> Got
+    requires { ⌜ (Room (now ts) n (now out) i at) × (i < n) ⌝ }
+    ensures { λ r. ⌜ Told args-form (λ tok. argumentsOf tok (levelled tok h) d i) (now (ts .entry)) n (now (out .entry)) i at r (now (out .exit)) ⌝ }
+{
+    if MOST_OPEN <= d {
+        return Got::Fault(i);
+    }
+    if field(ts, n, i + 1, 0) == tokens::RIGHT_PAREN {
+        return Got::Done(i + 2, at, 0);
+    }
+    let a = args(ts, n, h, d + 1, i + 1, out, at);
+    match a {
+        Got::Done(j, e, c) => {
+            if field(ts, n, j, 0) == tokens::RIGHT_PAREN {
+                Got::Done(j + 1, e, c)
+            } else {
+                Got::Fault(j)
+            }
+        }
+        Got::Fault(p) => Got::Fault(p),
+    }
+}
+
+// An expression in parentheses or brackets, from the one that opens on; s is the kind of the one that closes.
+fn enclosed(
+    ts: &[u32],
+    n: usize,
+    h: usize,
+    s: u32,
+    d: u32,
+    i: usize,
+    out: &mut [u32],
+    at: usize,
+) -> Got
+    requires { ⌜ (Room (now ts) n (now out) i at) × (i < n) × (0 < s) ⌝ }
+    ensures { λ r. ⌜ Told expr-form (λ tok. enclosedOf tok (levelled tok h) s d i) (now (ts .entry)) n (now (out .entry)) i at r (now (out .exit)) ⌝ }
+{
+    if MOST_OPEN <= d {
+        return Got::Fault(i);
+    }
+    let t = level(ts, n, h, EXPR_LEVEL, d + 1, i + 1, out, at);
+    match t {
+        Got::Done(j, e, _) => {
+            if field(ts, n, j, 0) == s {
+                Got::Done(j + 1, e, 1)
+            } else {
+                Got::Fault(j)
+            }
+        }
+        Got::Fault(p) => Got::Fault(p),
+    }
+}
+
+// A name, an element or a call.
+fn named(ts: &[u32], n: usize, h: usize, d: u32, i: usize, out: &mut [u32], at: usize) -> Got
+    requires { ⌜ (Room (now ts) n (now out) i at) × (i < n) × (fieldOf (now ts) n i 0 ≡ 1) ⌝ }
+    ensures { λ r. ⌜ Told expr-form (λ tok. namedOf tok (levelled tok h) d i) (now (ts .entry)) n (now (out .entry)) i at r (now (out .exit)) ⌝ }
+{
+    let p = field(ts, n, i, 1);
+    let v = field(ts, n, i, 2);
+    let k = field(ts, n, i + 1, 0);
+    if k == tokens::LEFT_BRACKET {
+        let a = enclosed(ts, n, h, tokens::RIGHT_BRACKET, d, i + 1, out, at);
+        match a {
+            Got::Done(j, e, _) => {
+                return Got::Done(j, item(out, e, ELEMENT_ITEM, p, v, 0), 1);
+            }
+            Got::Fault(q) => {
+                return Got::Fault(q);
+            }
+        }
+    }
+    if k == tokens::LEFT_PAREN {
+        let a = arguments(ts, n, h, d, i + 1, out, at);
+        match a {
+            Got::Done(j, e, c) => {
+                return Got::Done(j, item(out, e, CALL_ITEM, p, v, c as u32), 1);
+            }
+            Got::Fault(q) => {
+                return Got::Fault(q);
+            }
+        }
+    }
+    Got::Done(i + 1, item(out, at, NAME_ITEM, p, v, 0), 1)
+}
+
+// A unary operator, by its number, and its operand.
+fn unary(
+    ts: &[u32],
+    n: usize,
+    h: usize,
+    o: u32,
+    d: u32,
+    i: usize,
+    out: &mut [u32],
+    at: usize,
+) -> Got
+    requires { ⌜ (Room (now ts) n (now out) i at) × (i < n) × (o < 2) ⌝ }
+    ensures { λ r. ⌜ Told expr-form (λ tok. unaryOf tok (levelled tok h) (unaryAt o) d i) (now (ts .entry)) n (now (out .entry)) i at r (now (out .exit)) ⌝ }
+{
+    if MOST_OPEN <= d {
+        return Got::Fault(i);
+    }
+    let p = field(ts, n, i, 1);
+    let a = level(ts, n, h, UNARY_LEVEL, d + 1, i + 1, out, at);
+    match a {
+        Got::Done(j, e, _) => Got::Done(j, item(out, e, UNARY_ITEM, p, o, 0), 1),
+        Got::Fault(q) => Got::Fault(q),
+    }
+}
+
+// unary and primary
+fn primary(ts: &[u32], n: usize, h: usize, d: u32, i: usize, out: &mut [u32], at: usize) -> Got
+    requires { ⌜ Room (now ts) n (now out) i at ⌝ }
+    ensures { λ r. ⌜ Told expr-form (λ tok. primaryOf tok (levelled tok h) d i) (now (ts .entry)) n (now (out .entry)) i at r (now (out .exit)) ⌝ }
+{
+    let k = field(ts, n, i, 0);
+    if k == tokens::NUMBER {
+        return Got::Done(
+            i + 1,
+            item(out, at, NUMBER_ITEM, 0, field(ts, n, i, 2), 0),
+            1,
+        );
+    }
+    if k == tokens::NAME {
+        return named(ts, n, h, d, i, out, at);
+    }
+    if k == tokens::TRUE {
+        return Got::Done(i + 1, item(out, at, TRUTH_ITEM, 0, 1, 0), 1);
+    }
+    if k == tokens::FALSE {
+        return Got::Done(i + 1, item(out, at, TRUTH_ITEM, 0, 0, 0), 1);
+    }
+    if k == tokens::LEFT_PAREN {
+        return enclosed(ts, n, h, tokens::RIGHT_PAREN, d, i, out, at);
+    }
+    if k == tokens::MINUS {
+        return unary(ts, n, h, 0, d, i, out, at);
+    }
+    if k == tokens::BANG {
+        return unary(ts, n, h, 1, d, i, out, at);
+    }
+    Got::Fault(i)
 }
