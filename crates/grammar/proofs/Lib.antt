@@ -6,3 +6,4 @@ pub mod Tables
 pub mod Writes
 pub mod Steps
 pub mod ExprLaws
+pub mod StmtLaws

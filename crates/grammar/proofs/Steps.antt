@@ -110,6 +110,86 @@ module _ {A B : Type 0} {F : Form A} {K : Form B} {f : Row → Out A} {k : Row �
         };
       }
 
+-- the same words under another name, counted from an earlier token
+pub recast : {A B : Type 0} {F : Form A} {K : Form B} {f : Row → Out A} {k : Row → Out B} {ts : List ℕ} {n i i′ at : ℕ} {r : Got} {xs ys : List ℕ} (φ : (tok : Row) → Holds tok ts n → A → B) → i ≤ i′ → Told F f ts n xs i′ at r ys
+    → ((tok : Row) (H : Holds tok ts n) → k tok ≡ map (φ tok H) (f tok)) → ((tok : Row) (H : Holds tok ts n) (a : A) → (K .words (φ tok H a) ≡ F .words a) × (F .tells a ≡ K .tells (φ tok H a))) → Told K k ts n xs i at r ys
+recast {F = F} {K = K} {f = f} {k = k} {ts = ts} {n = n} {i = i} {i′ = i′} {at = at} {r = r} {xs = xs} {ys = ys} φ l h q w = go r h
+  where
+    go : (r : Got) → Told F f ts n xs i′ at r ys → Told K k ts n xs i at r ys
+    go (Done j e c) h =
+        record {
+          by = record {
+            within = h .by .within;
+            small = omega (arith, h .by .small);
+            onward = h .by .onward;
+            fits = h .by .fits;
+            says = λ tok H.
+                let s : Says F (f tok) xs at j e c ys = h .by .says tok H in
+                let v = w tok H (s .value) in
+                record { value = φ tok H (s .value); is = q tok H ∙ ap (map (φ tok H)) (s .is); told = s .told ∙ v .1; end = rw (v .0) (s .end); buffer = rw (v .0) (s .buffer) };
+          };
+        }
+    go (Fault p) h = record { by = λ tok H. q tok H ∙ ap (map (φ tok H)) (h .by tok H) }
+
+-- one run of stores after another
+pub after : {ys zs : List ℕ} {e : ℕ} (xs : List ℕ) (at : ℕ) (u v : List ℕ) → ys ≡ sets xs at u → e ≡ at + length u → zs ≡ sets ys e v → zs ≡ sets xs at (u ++ v)
+after {ys} {zs} {e} xs at u v p q r = r ∙ ap (λ (w : List ℕ). sets w e v) p ∙ ap (λ (k : ℕ). sets (sets xs at u) k v) q ∙ sets-append xs at u v
+
+-- words before two parts, written after them
+pub front-two : {A B C : Type 0} {F : Form A} {G : Form B} {K : Form C} {f : Row → Out A} {g : Row → Out B} {k : Row → Out C} {ts : List ℕ} {n i i′ at b j j′ e c j″ e″ c″ x m : ℕ} {xs ys zs us : List ℕ} (φ : Row → A → B → C) (w : List ℕ)
+    → b ≡ at + length w → Found F f ts n xs i′ b j e c ys → Found G g ts n ys j′ e j″ e″ c″ zs → us ≡ sets zs at w → x ≤ n → e″ + 8 * i ≤ at + 8 * x → m < 4294967296
+    → ((tok : Row) → Holds tok ts n → (a : A) (a′ : B) → f tok ≡ ok a j → g tok ≡ ok a′ j″ → c ≡ F .tells a → c″ ≡ G .tells a′ → e ≡ b + length (F .words a) → e″ ≡ e + length (G .words a′)
+    → (k tok ≡ ok (φ tok a a′) x) × (K .words (φ tok a a′) ≡ w ++ (F .words a ++ G .words a′)) × (m ≡ K .tells (φ tok a a′))) → Told K k ts n xs i at (Done x e″ m) us
+front-two {F = F} {G = G} {K = K} {f = f} {g = g} {k = k} {at = at} {b = b} {j = j} {e = e} {c = c} {j″ = j″} {e″ = e″} {c″ = c″} {x = x} {m = m} {xs = xs} {ys = ys} {zs = zs} φ w q h h′ z l s fit y =
+    record {
+      by = record {
+        within = l;
+        small = s;
+        onward = omega (arith, q, h .onward, h′ .onward);
+        fits = fit;
+        says = λ tok H.
+            let a : Says F (f tok) xs b j e c ys = h .says tok H in
+            let a′ : Says G (g tok) ys e j″ e″ c″ zs = h′ .says tok H in
+            let r : (k tok ≡ ok (φ tok (a .value) (a′ .value)) x) × (K .words (φ tok (a .value) (a′ .value)) ≡ w ++ (F .words (a .value) ++ G .words (a′ .value))) × (m ≡ K .tells (φ tok (a .value) (a′ .value))) = y tok H (a .value) (a′ .value) (a .is) (a′ .is) (a .told) (a′ .told) (a .end) (a′ .end) in
+            record {
+              value = φ tok (a .value) (a′ .value);
+              is = r .0;
+              told = r .2;
+              end = rw (r .1) (simp length-append (omega (arith, q, a .end, a′ .end)));
+              buffer = rw (r .1) (z ∙ ap (λ (v : List ℕ). sets v at w) (after xs b (F .words (a .value)) (G .words (a′ .value)) (a .buffer) (a .end) (a′ .buffer) ∙ ap (λ (k : ℕ). sets xs k (F .words (a .value) ++ G .words (a′ .value))) q) ∙ sets-before xs at w (F .words (a .value) ++ G .words (a′ .value)));
+            };
+      };
+    }
+
+-- words before three parts, written after them
+pub front-three : {A B C D : Type 0} {F : Form A} {G : Form B} {L : Form D} {K : Form C} {f : Row → Out A} {g : Row → Out B} {l : Row → Out D} {k : Row → Out C} {ts : List ℕ} {n i i′ at b j j′ e c j″ e″ c″ i₃ j₃ e₃ c₃ x m : ℕ} {xs ys zs vs us : List ℕ} (φ : Row → A → B → D → C) (w : List ℕ)
+    → b ≡ at + length w → Found F f ts n xs i′ b j e c ys → Found G g ts n ys j′ e j″ e″ c″ zs → Found L l ts n zs i₃ e″ j₃ e₃ c₃ vs → us ≡ sets vs at w → x ≤ n → e₃ + 8 * i ≤ at + 8 * x → m < 4294967296
+    → ((tok : Row) → Holds tok ts n → (a : A) (a′ : B) (a₃ : D) → f tok ≡ ok a j → g tok ≡ ok a′ j″ → l tok ≡ ok a₃ j₃ → c ≡ F .tells a → c″ ≡ G .tells a′ → c₃ ≡ L .tells a₃ → e ≡ b + length (F .words a) → e″ ≡ e + length (G .words a′) → e₃ ≡ e″ + length (L .words a₃)
+    → (k tok ≡ ok (φ tok a a′ a₃) x) × (K .words (φ tok a a′ a₃) ≡ w ++ (F .words a ++ (G .words a′ ++ L .words a₃))) × (m ≡ K .tells (φ tok a a′ a₃))) → Told K k ts n xs i at (Done x e₃ m) us
+front-three {F = F} {G = G} {L = L} {K = K} {f = f} {g = g} {l = lf} {k = k} {at = at} {b = b} {j = j} {e = e} {c = c} {j″ = j″} {e″ = e″} {c″ = c″} {j₃ = j₃} {e₃ = e₃} {c₃ = c₃} {x = x} {m = m} {xs = xs} {ys = ys} {zs = zs} {vs = vs} φ w q h h′ h₃ z l s fit y =
+    record {
+      by = record {
+        within = l;
+        small = s;
+        onward = omega (arith, q, h .onward, h′ .onward, h₃ .onward);
+        fits = fit;
+        says = λ tok H.
+            let a : Says F (f tok) xs b j e c ys = h .says tok H in
+            let a′ : Says G (g tok) ys e j″ e″ c″ zs = h′ .says tok H in
+            let a₃ : Says L (lf tok) zs e″ j₃ e₃ c₃ vs = h₃ .says tok H in
+            let r : (k tok ≡ ok (φ tok (a .value) (a′ .value) (a₃ .value)) x) × (K .words (φ tok (a .value) (a′ .value) (a₃ .value)) ≡ w ++ (F .words (a .value) ++ (G .words (a′ .value) ++ L .words (a₃ .value)))) × (m ≡ K .tells (φ tok (a .value) (a′ .value) (a₃ .value))) =
+                y tok H (a .value) (a′ .value) (a₃ .value) (a .is) (a′ .is) (a₃ .is) (a .told) (a′ .told) (a₃ .told) (a .end) (a′ .end) (a₃ .end) in
+            let two : vs ≡ sets ys e (G .words (a′ .value) ++ L .words (a₃ .value)) = after ys e (G .words (a′ .value)) (L .words (a₃ .value)) (a′ .buffer) (a′ .end) (a₃ .buffer) in
+            record {
+              value = φ tok (a .value) (a′ .value) (a₃ .value);
+              is = r .0;
+              told = r .2;
+              end = rw (r .1) (simp length-append (omega (arith, q, a .end, a′ .end, a₃ .end)));
+              buffer = rw (r .1) (z ∙ ap (λ (v : List ℕ). sets v at w) (after xs b (F .words (a .value)) (G .words (a′ .value) ++ L .words (a₃ .value)) (a .buffer) (a .end) two ∙ ap (λ (k : ℕ). sets xs k (F .words (a .value) ++ (G .words (a′ .value) ++ L .words (a₃ .value)))) q) ∙ sets-before xs at w (F .words (a .value) ++ (G .words (a′ .value) ++ L .words (a₃ .value))));
+            };
+      };
+    }
+
 -- a part, and what goes on from it
 pub seq : {A B C : Type 0} {F : Form A} {G : Form B} {K : Form C} {f : Row → Out A} {k : Row → Out C} {ts : List ℕ} {n i at j e c : ℕ} {xs ys zs : List ℕ} {r : Got} (g : Row → ℕ → Out B) (φ : Row → A → B → C)
     → Found F f ts n xs i at j e c ys → Told G (λ tok. g tok j) ts n ys j e r zs
@@ -158,7 +238,7 @@ pub record Going {A : Type 0} (F : Form A) (f f′ : Row → Out A) (ts : List �
   pub onward : at ≤ e
   pub goes : (tok : Row) → Holds tok ts n → Gone F (f tok) (f′ tok) xs at e c ys
 
-map-id : {A : Type 0} (o : Out A) → o ≡ map (λ a. a) o
+pub map-id : {A : Type 0} (o : Out A) → o ≡ map (λ a. a) o
 map-id (ok a j) = refl
 map-id (bad p) = refl
 

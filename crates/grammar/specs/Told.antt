@@ -11,7 +11,7 @@ use Rattle.language.specs.Tree.{Place, Ty, Unary, Binary, Expr, Args, Stmt, Blo
 use Rattle.language.specs.Tokens.{Placed}
 use Rattle.tokens.specs.Kinds.{valueOf, words-per-token}
 use Rattle.grammar.specs.Parse.{Out, Out.ok, Out.bad, map, kindIn, placeIn, Tail, many, meansOf}
-use Rattle.grammar.specs.Flat.{argCount, exprWords, argsWords, stmtWords, blockWords, paramsWords, itemWords, itemsWords, count, typeNumber, resultNumber, rightWords, tailWords, words-for-token}
+use Rattle.grammar.specs.Flat.{argCount, size, header, exprLength, exprWords, argsWords, stmtWords, blockWords, paramsWords, itemWords, itemsWords, count, typeNumber, resultNumber, rightWords, tailWords, words-for-token}
 use Rattle.grammar.specs.declared.Got.{Got}
 use Rattle.grammar.specs.declared.Got.the-variants.{Done, Fault}
 
@@ -60,6 +60,10 @@ tail-form = record { words = λ r. tailWords r []; tells = λ _. 1 }
 
 abbrev pub args-form : Form Args
 args-form = record { words = λ es. argsWords es []; tells = argCount }
+
+-- a statement of one expression: its header's kind, place and name's length
+abbrev pub single-form : ℕ → Place → ℕ → Form Expr
+single-form k p x = record { words = λ e. header k p x (size e) 0 0 0 (exprLength e) (exprWords e []); tells = λ _. 1 }
 
 abbrev pub stmt-form : Form Stmt
 stmt-form = record { words = λ s. stmtWords s []; tells = λ _. 1 }

@@ -4,8 +4,8 @@ ghost use mathlib.Core.List.{[], _∷_};
 ghost use Prim.Native.Nat.{ℕ, _+_, _*_, _≤_, _<_};
 ghost use lib.ListN.{length};
 ghost use lib.Seq.{sets};
-ghost use Rattle.grammar.specs.Parse.{levelOf, meansOf, most, levelled, restOf, exprsOf, argumentsOf, enclosedOf, namedOf, unaryOf, primaryOf};
-ghost use Rattle.grammar.specs.Told.{fieldOf, itemKind, itemNumber, operandOf, unaryAt, Told, Room, expr-form, right-form, tail-form, args-form};
+ghost use Rattle.grammar.specs.Parse.{levelOf, meansOf, most, levelled, restOf, exprsOf, argumentsOf, enclosedOf, namedOf, unaryOf, primaryOf, endedOf, typeOf, typedOf, declareOf, storeOf, runOf, changeOf, returnOf, whileOf, ifOf, stmtOf, stmtsOf, blockOf};
+ghost use Rattle.grammar.specs.Told.{fieldOf, itemKind, itemNumber, operandOf, unaryAt, Told, Room, expr-form, right-form, tail-form, args-form, single-form, type-form, stmt-form, block-form};
 
 // How far it went: the next token, the next free word, and a number that the thing tells. Or the token at fault.
 pub enum Got {
