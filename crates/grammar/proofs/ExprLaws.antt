@@ -135,19 +135,25 @@ module _ (h l d i : ℕ) {ts : List ℕ} {n at k p : ℕ} {xs : List ℕ} (y : k
   unfolding operandOf
   operand-strict {w} {v} {j} {e} q r b u s t =
       close (λ tok b. right tok i b) (5 ∷ p ∷ v ∷ 0 ∷ []) b s t (b .within) (omega (arith, b .small)) (omega arith)
-      (λ tok H a o _. (ap (map (right tok i)) o,
-      strict-words (meansOf (kindIn (tok i))) (placeIn (tok i)) a [] (ap itemKind (means i k tok H y) ∙ sym q ∙ r) ∙ rw (place-is H i z, ap itemNumber (means i k tok H y), sym u) (expr-linear a (5 ∷ p ∷ v ∷ 0 ∷ [])), refl))
+      (λ tok H a o _. (
+        ap (map (right tok i)) o,
+        strict-words (meansOf (kindIn (tok i))) (placeIn (tok i)) a [] (ap itemKind (means i k tok H y) ∙ sym q ∙ r) ∙ rw (place-is H i z, ap itemNumber (means i k tok H y), sym u) (expr-linear a (5 ∷ p ∷ v ∷ 0 ∷ [])),
+        refl,
+      ))
 
   pub operand-lazy : {w b j e c e′ : ℕ} {ys zs us : List ℕ} → w ≡ itemKind (meansOf k) → (w ≡ 5 → ⊥) → b ≡ at + 4 → Found expr-form (λ tok. levelled tok h (l + 1) d (i + 1)) ts n xs (i + 1) b j e c ys
       → zs ≡ sets ys at (w ∷ p ∷ (e - at - 4) / 4 ∷ 0 ∷ []) → us ≡ sets zs e (8 ∷ p ∷ 0 ∷ 0 ∷ []) → e′ ≡ e + 4 → Told right-form (λ tok. operandOf tok (levelled tok h) l d i) ts n xs i at (Done j e′ 1) us
   unfolding operandOf
   operand-lazy {w} {b} {j} {e} {c} {e′} {ys} {zs} {us} q r x g s t u =
       let o : Told (opened w p) (λ tok. levelled tok h (l + 1) d (i + 1)) ts n xs i at (Done j e 1) zs =
-          front (λ tok b. b) (w ∷ p ∷ (e - at - 4) / 4 ∷ 0 ∷ []) x g s (g .within) (omega (arith, g .small)) (omega arith)
-          (λ tok H a o _ f. (o, ap (λ (m : ℕ). w ∷ p ∷ m ∷ 0 ∷ exprWords a []) (sym (size-is e b at (size a) x (f ∙ ap (λ (m : ℕ). b + m) (expr-length a [])))), refl)) in
+      front (λ tok b. b) (w ∷ p ∷ (e - at - 4) / 4 ∷ 0 ∷ []) x g s (g .within) (omega (arith, g .small)) (omega arith)
+      (λ tok H a o _ f. (o, ap (λ (m : ℕ). w ∷ p ∷ m ∷ 0 ∷ exprWords a []) (sym (size-is e b at (size a) x (f ∙ ap (λ (m : ℕ). b + m) (expr-length a [])))), refl)) in
       close (λ tok b. right tok i b) (8 ∷ p ∷ 0 ∷ 0 ∷ []) (o .by) t u (g .within) (omega (arith, g .small)) (omega arith)
-      (λ tok H a o _. (ap (map (right tok i)) o,
-      lazy-words (meansOf (kindIn (tok i))) (placeIn (tok i)) a [] (λ v. r (q ∙ sym (ap itemKind (means i k tok H y)) ∙ v)) ∙ rw (place-is H i z, ap itemKind (means i k tok H y), sym q) (ap (λ (m : List ℕ). w ∷ p ∷ size a ∷ 0 ∷ m) (expr-linear a (8 ∷ p ∷ 0 ∷ 0 ∷ []))), refl))
+      (λ tok H a o _. (
+        ap (map (right tok i)) o,
+        lazy-words (meansOf (kindIn (tok i))) (placeIn (tok i)) a [] (λ v. r (q ∙ sym (ap itemKind (means i k tok H y)) ∙ v)) ∙ rw (place-is H i z, ap itemKind (means i k tok H y), sym q) (ap (λ (m : List ℕ). w ∷ p ∷ size a ∷ 0 ∷ m) (expr-linear a (8 ∷ p ∷ 0 ∷ 0 ∷ []))),
+        refl,
+      ))
 
 -- `args`
 module _ (h d m i : ℕ) where
@@ -174,8 +180,8 @@ module _ (h d m i : ℕ) where
     unfolding argsWords argCount signKind
     args-last {j} {e} {x} {k} {zs} z l b q r =
         let o : Told args-form (λ tok. exprsOf tok (levelled tok h) m d i) ts n ys i at (Done j e 1) zs =
-            close (λ tok a. Args.more a Args.none) [] b refl (omega arith) (b .within) (b .small) (omega arith)
-            (λ tok H a o _. (args-next tok z o ∙ ap (λ (t : Bool). pick t (map (Args.more a) (exprsOf tok (levelled tok h) (m - 1) d (j + 1))) (ok (Args.more a Args.none) j)) (kind-not H j 26 q r), sym (append-nil (exprWords a [])), refl)) in
+        close (λ tok a. Args.more a Args.none) [] b refl (omega arith) (b .within) (b .small) (omega arith)
+        (λ tok H a o _. (args-next tok z o ∙ ap (λ (t : Bool). pick t (map (Args.more a) (exprsOf tok (levelled tok h) (m - 1) d (j + 1))) (ok (Args.more a Args.none) j)) (kind-not H j 26 q r), sym (append-nil (exprWords a [])), refl)) in
         goes-done a o refl (omega arith)
 
     pub args-again : {j e x k : ℕ} {zs : List ℕ} → 0 < m → Found expr-form (λ tok. levelled tok h 1 d i) ts n ys i at j e x zs → k ≡ fieldOf ts n j 0 → k ≡ 26 → j < n

@@ -178,7 +178,7 @@ front-three {F = F} {G = G} {L = L} {K = K} {f = f} {g = g} {l = lf} {k = k} {at
             let a′ : Says G (g tok) ys e j″ e″ c″ zs = h′ .says tok H in
             let a₃ : Says L (lf tok) zs e″ j₃ e₃ c₃ vs = h₃ .says tok H in
             let r : (k tok ≡ ok (φ tok (a .value) (a′ .value) (a₃ .value)) x) × (K .words (φ tok (a .value) (a′ .value) (a₃ .value)) ≡ w ++ (F .words (a .value) ++ (G .words (a′ .value) ++ L .words (a₃ .value)))) × (m ≡ K .tells (φ tok (a .value) (a′ .value) (a₃ .value))) =
-                y tok H (a .value) (a′ .value) (a₃ .value) (a .is) (a′ .is) (a₃ .is) (a .told) (a′ .told) (a₃ .told) (a .end) (a′ .end) (a₃ .end) in
+            y tok H (a .value) (a′ .value) (a₃ .value) (a .is) (a′ .is) (a₃ .is) (a .told) (a′ .told) (a₃ .told) (a .end) (a′ .end) (a₃ .end) in
             let two : vs ≡ sets ys e (G .words (a′ .value) ++ L .words (a₃ .value)) = after ys e (G .words (a′ .value)) (L .words (a₃ .value)) (a′ .buffer) (a′ .end) (a₃ .buffer) in
             record {
               value = φ tok (a .value) (a′ .value) (a₃ .value);

@@ -20,7 +20,7 @@ use Rattle.grammar.specs.Told.{Row, fieldOf, Holds, Form, Says, Found, T
 use Rattle.grammar.specs.declared.Got.{Got}
 use Rattle.grammar.specs.declared.Got.the-variants.{Done, Fault}
 use Rattle.grammar.proofs.FlatLaws.{expr-linear, args-linear, run-linear, stmt-linear, block-linear, expr-length, args-length}
-use Rattle.grammar.proofs.Steps.{hit, miss, found, fault, same, leaf, close, front, recast, front-two, front-three, seq, Going, begun, goes-done, goes-fault, goes-on, map-id, kind-is, kind-not, kind-eq, name-length, place-is}
+use Rattle.grammar.proofs.Steps.{hit, miss, found, fault, same, leaf, close, front, recast, after, front-two, front-three, seq, Going, begun, goes-done, goes-fault, goes-on, map-id, kind-is, kind-not, kind-eq, name-length, place-is}
 use Rattle.grammar.proofs.ExprLaws.{stop, stop-map}
 
 -- items of so many words
@@ -29,6 +29,14 @@ quarter w s e = omega (arith, e)
 
 pub items-of : (e : Expr) (w : ℕ) → w ≡ exprLength e → w / 4 ≡ size e
 items-of e w q = quarter w (size e) (q ∙ expr-length e [])
+
+-- a header's two halves
+pub eight : {ys zs : List ℕ} (xs : List ℕ) (at a b c d e f g h : ℕ) → ys ≡ sets xs at (a ∷ b ∷ c ∷ d ∷ []) → zs ≡ sets ys (at + 4) (e ∷ f ∷ g ∷ h ∷ []) → zs ≡ sets xs at (a ∷ b ∷ c ∷ d ∷ e ∷ f ∷ g ∷ h ∷ [])
+eight xs at a b c d e f g h p q = after xs at (a ∷ b ∷ c ∷ d ∷ []) (e ∷ f ∷ g ∷ h ∷ []) p refl q
+
+-- room after a statement's first part, which leaves a header's words free
+pub room-go : {A : Type 0} {F : Form A} {f : Row → Out A} {ts : List ℕ} {n i at b j e c : ℕ} {xs ys : List ℕ} → Room ts n xs i at → b ≡ at + 8 → Found F f ts n xs (i + 1) b j e c ys → length ys ≡ length xs → (k : ℕ) → j ≤ k → k ≤ n → Room ts n ys k e
+room-go r z f q k l l′ = record { few = r .few; held = r .held; begins = l′; free = omega (arith, r .free, f .small) }
 
 -- `ended`
 module _ (d i : ℕ) {ts : List ℕ} {n at : ℕ} {xs : List ℕ} where
@@ -90,7 +98,7 @@ unfolding typedOf
 typed-name tok i {t} {j} = pickG (λ (o : Out Ty). o ≡ ok t j → kind tok i ≡ 1) (eqb (kind tok i) 1) _ (bad i) (λ b e. eqb-true _ _ b) (λ b e. absurd (let z : _≡_ {A = ℕ} 0 1 = cc in omega arith))
 
 -- `declare`
-declare-kind : (t : Ty) → declareKind t ≡ 8 + typeNumber t
+declare-kind : (t : Ty) → declareKind t ≡ pick (eqb (typeNumber t) 1) 9 10
 unfolding declareKind typeNumber
 declare-kind Ty.int = refl
 declare-kind Ty.bool = refl
@@ -105,11 +113,11 @@ module _ (d i : ℕ) {ts : List ℕ} {n at : ℕ} {xs : List ℕ} where
     unfolding declareOf signKind
     declare-unset z = fault (λ tok H. rw (a .says tok H .is, kind-not H j 16 q z))
 
-    pub declare-done : {p v : ℕ} {r : Got} {ys : List ℕ} → k ≡ 16 → i + 1 ≤ j → p ≡ fieldOf ts n (i + 1) 1 → v ≡ fieldOf ts n (i + 1) 2 → Told (single-form (8 + t) p v) (λ tok. endedOf tok d (j + 1)) ts n xs j at r ys → Told stmt-form (λ tok. declareOf tok d i) ts n xs i at r ys
+    pub declare-done : {u p v : ℕ} {r : Got} {ys : List ℕ} → k ≡ 16 → i + 1 ≤ j → u ≡ pick (eqb t 1) 9 10 → p ≡ fieldOf ts n (i + 1) 1 → v ≡ fieldOf ts n (i + 1) 2 → Told (single-form u p v) (λ tok. endedOf tok d (j + 1)) ts n xs j at r ys → Told stmt-form (λ tok. declareOf tok d i) ts n xs i at r ys
     unfolding declareOf signKind stmtWords
-    declare-done {p} {v} z l w u s =
+    declare-done {u} {p} {v} z l y w o s =
         recast (λ tok H e. Stmt.declare (placeIn (tok (i + 1))) (nameIn (tok (i + 1))) (a .says tok H .value) e) (omega arith) s (λ tok H. rw (a .says tok H .is, kind-eq H j 16 q z))
-        (λ tok H e. (rw (declare-kind (a .says tok H .value), sym (a .says tok H .told), place-is H (i + 1) w, name-length H (i + 1) refl (H .kind (i + 1) ∙ typed-name tok (i + 1) (a .says tok H .is)) u), refl))
+        (λ tok H e. (rw (declare-kind (a .says tok H .value), sym (a .says tok H .told), sym y, place-is H (i + 1) w, name-length H (i + 1) refl (H .kind (i + 1) ∙ typed-name tok (i + 1) (a .says tok H .is)) o), refl))
 
 -- `store`
 module _ (d i : ℕ) {ts : List ℕ} {n at : ℕ} {xs : List ℕ} where
@@ -164,7 +172,7 @@ module _ (d i : ℕ) {ts : List ℕ} {n at : ℕ} {xs : List ℕ} where
     unfolding runOf callOf signKind stmtWords
     run-done {p} {v} {f} {w} {zs} z g l o r s y y′ t u =
         let h : Told (called p v c) (λ tok. argumentsOf tok (levelled tok 230) d (i + 1)) ts n xs i b (Done j f c) zs =
-            close (λ tok es. es) (3 ∷ p ∷ v ∷ c ∷ []) a y y′ (a .within) (omega (arith, a .small)) (a .fits) (λ tok H es g m. (g, refl, m)) in
+        close (λ tok es. es) (3 ∷ p ∷ v ∷ c ∷ []) a y y′ (a .within) (omega (arith, a .small)) (a .fits) (λ tok H es g m. (g, refl, m)) in
         front (λ tok es. Stmt.run (placeIn (tok i)) (nameIn (tok i)) es) (7 ∷ p ∷ v ∷ w / 4 ∷ 0 ∷ 0 ∷ 0 ∷ w ∷ []) l (h .by) u (omega arith) (omega (arith, a .small)) (omega arith)
         (λ tok H es g m x.
         let rs : runWords (placeIn (tok i)) (nameIn (tok i)) es [] ≡ argsWords es [] ++ (3 ∷ p ∷ v ∷ c ∷ []) = run-words (placeIn (tok i)) (nameIn (tok i)) es p v c (place-is H i r) (name-length H i refl o s) m in
