@@ -20,7 +20,7 @@ use Rattle.tokens.proofs.Tables.{Plain, letter-plain, digit-plain, digi
 use Rattle.tokens.proofs.Steps.{read-blank, read-comment, read-token}
 
 -- what a token begins with
-record First (w : List ℕ) : Type 0 where
+pub record First (w : List ℕ) : Type 0 where
   pub first : ℕ
   pub others : List ℕ
   pub spelt : w ≡ first ∷ others
@@ -31,7 +31,7 @@ unfolding starts
 first-of P f [] e = clash (sym e)
 first-of P f (b ∷ w) e = record { first = b; others = w; spelt = refl; plain = f b e }
 
-spells-first : {w rest : List ℕ} {t : Token} → Spells w rest t → First w
+pub spells-first : {w rest : List ℕ} {t : Token} → Spells w rest t → First w
 spells-first {w} (Spells.name s a e l h) = first-of isLetter letter-plain w s
 spells-first {w} (Spells.word {x = x} {s = s} e i q) = subst First (sym q) (first-of isLetter letter-plain (bytes s) (word-row (x, s) i .begin))
 spells-first {w} (Spells.number s a e u n l) = first-of isDigit digit-plain w s

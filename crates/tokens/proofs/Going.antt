@@ -48,7 +48,7 @@ unfolding flat
 flat-snoc [] t = refl
 flat-snoc (x ∷ ts) t = ap (λ (w : List ℕ). kindOf (x .token) ∷ x .place ∷ valueOf (x .token) ∷ w) (flat-snoc ts t)
 
-flat-length : (ts : List Placed) → length (flat ts) ≡ 3 * length ts
+pub flat-length : (ts : List Placed) → length (flat ts) ≡ 3 * length ts
 unfolding flat
 flat-length [] = refl
 flat-length (x ∷ ts) = omega (arith, flat-length ts)

@@ -1,9 +1,12 @@
+pub mod Main
 pub mod Lists
 pub mod Tables
 pub mod Steps
 pub mod Sound
 pub mod Complete
+pub mod KindLaws
 pub mod Scan
 pub mod Words
 pub mod Looks
 pub mod Going
+pub mod Room

@@ -199,6 +199,12 @@ unfolding find begins signs bytes
 two-enough b [] = refl
 two-enough b (c ∷ l) = refl
 
+-- a row of two bytes whose first byte is there: the second decides
+pub pair-kind : (t : Bool) (r : Sign × String) (o : Option (Sign × String)) → pick t (signKind (r .0)) (kindOrNone o) ≡ kindOrNone (pick (both t true) (some r) o)
+unfolding kindOrNone
+pair-kind true r o = refl
+pair-kind false r o = refl
+
 sizeTest : Sign × String → Bool
 sizeTest r = both (ltb 0 (signKind (r .0))) (eqb (length (bytes (r .1))) (pick (ltb (signKind (r .0)) 9) 2 1))
 

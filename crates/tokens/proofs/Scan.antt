@@ -8,7 +8,7 @@ use native.Mathlib.Numerals.{add-one}
 use lib.Dec.{leb, eqb}
 use lib.ListN.{length, getD, take, drop, length-take, length-drop, drop-of-length-le, List·getD-eq-default}
 use lib.Seq.{drop-cons, getD-drop, getD-take}
-use borrow.Author.Tests.{eq-eqb, ne-eqb}
+use borrow.Author.Tests.{eq-eqb, ne-eqb, eqb-true}
 use Rattle.word.specs.Choice.{pick, both, either}
 use Rattle.language.specs.Tokens.{starts, same, span}
 use Rattle.tokens.proofs.Lists.{same-eq}
@@ -20,6 +20,14 @@ both-right false = refl
 pub either-none : (a : Bool) → either a false ≡ a
 either-none true = refl
 either-none false = refl
+
+-- a carriage return is no line feed
+pub return-alone : (b : ℕ) → both (either (eqb b 10) (eqb b 13)) (not (eqb b 10)) ≡ eqb b 13
+return-alone b = go (eqb b 10) refl
+  where
+    go : (t : Bool) → eqb b 10 ≡ t → both (either t (eqb b 13)) (not t) ≡ eqb b 13
+    go true e = rw (eqb-true b 10 e)
+    go false e = both-right (eqb b 13)
 
 -- the byte at i is the first of the rest; P does not hold of 0, which stands for the end
 pub starts-at : (P : ℕ → Bool) → P 0 ≡ false → (text : List ℕ) (i : ℕ) → starts P (drop i text) ≡ P (getD text i 0)

@@ -5,6 +5,7 @@ ghost use Prim.Native.Nat.{ℕ, _+_, _*_, _-_, _≤_, _<_};
 ghost use mathlib.Core.List.{[], _∷_};
 ghost use mathlib.Core.Bool.{true, false};
 ghost use lib.ListN.{length, getD, take, drop};
+ghost use lib.Dec.{eqb};
 ghost use lib.Seq.{sets};
 ghost use Rattle.word.specs.Choice.{pick};
 ghost use Rattle.language.specs.Tokens.{isBlank, inComment, isLetter, isDigit, inName, same, span, find, words, orName, decimal, nameAt, numberAt, asSign, tokenAt, signs, begins, largest-number};
@@ -12,81 +13,7 @@ ghost use Rattle.tokens.specs.Kinds.{kindOf};
 ghost use Rattle.tokens.specs.Seen.{seen, signIn};
 ghost use Rattle.tokens.specs.Told.{Told};
 
-pub const NAME: u32 = 1;
-
-pub const NUMBER: u32 = 2;
-
-pub const DOUBLE_EQUALS: u32 = 3;
-
-pub const BANG_EQUALS: u32 = 4;
-
-pub const LESS_EQUALS: u32 = 5;
-
-pub const GREATER_EQUALS: u32 = 6;
-
-pub const DOUBLE_AMPERSAND: u32 = 7;
-
-pub const DOUBLE_BAR: u32 = 8;
-
-pub const PLUS: u32 = 9;
-
-pub const MINUS: u32 = 10;
-
-pub const STAR: u32 = 11;
-
-pub const SLASH: u32 = 12;
-
-pub const PERCENT: u32 = 13;
-
-pub const LESS: u32 = 14;
-
-pub const GREATER: u32 = 15;
-
-pub const EQUALS: u32 = 16;
-
-pub const BANG: u32 = 17;
-
-pub const LEFT_PAREN: u32 = 18;
-
-pub const RIGHT_PAREN: u32 = 19;
-
-pub const LEFT_BRACE: u32 = 20;
-
-pub const RIGHT_BRACE: u32 = 21;
-
-pub const LEFT_BRACKET: u32 = 22;
-
-pub const RIGHT_BRACKET: u32 = 23;
-
-pub const COLON: u32 = 24;
-
-pub const SEMICOLON: u32 = 25;
-
-pub const COMMA: u32 = 26;
-
-pub const VAR: u32 = 27;
-
-pub const FN: u32 = 28;
-
-pub const LET: u32 = 29;
-
-pub const IF: u32 = 30;
-
-pub const ELSE: u32 = 31;
-
-pub const WHILE: u32 = 32;
-
-pub const RETURN: u32 = 33;
-
-pub const EMIT: u32 = 34;
-
-pub const INT: u32 = 35;
-
-pub const BOOL: u32 = 36;
-
-pub const TRUE: u32 = 37;
-
-pub const FALSE: u32 = 38;
+pub mod kinds; // kinds.rt: the kinds of tokens, as numbers
 
 // The limits of document 01 §2.
 pub const LONGEST_TEXT: usize = 65536;
@@ -133,9 +60,6 @@ fn is_blank(b: u8) -> bool
 fn in_comment(b: u8) -> bool
     ensures { λ r. ⌜ r ≡ inComment b ⌝ }
 {
-    if b == b'\n' {
-        return false;
-    }
     if b < b' ' {
         if b == b'\t' {
             return true;
@@ -237,7 +161,11 @@ fn word_or_name(text: &[u8], i: usize, n: usize, w: &[u8], k: u32) -> u32
     requires { ⌜ i + n ≤ length (now text) ⌝ }
     ensures { λ r. ⌜ r ≡ pick (same (take n (drop i (now (text .entry)))) (now (w .entry))) k 1 ⌝ }
 {
-    if is_spelt(text, i, n, w) { k } else { NAME }
+    if is_spelt(text, i, n, w) {
+        k
+    } else {
+        kinds::NAME
+    }
 }
 
 // The kind of the n bytes at i, a name or one of the twelve words: the first letter leaves one or two words to compare with.
@@ -247,31 +175,31 @@ fn word_kind(text: &[u8], i: usize, n: usize) -> u32
 {
     let b = text[i];
     match b {
-        b'b' => word_or_name(text, i, n, b"bool", BOOL),
+        b'b' => word_or_name(text, i, n, b"bool", kinds::BOOL),
         b'e' => {
             if is_spelt(text, i, n, b"else") {
-                return ELSE;
+                return kinds::ELSE;
             }
-            word_or_name(text, i, n, b"emit", EMIT)
+            word_or_name(text, i, n, b"emit", kinds::EMIT)
         }
         b'f' => {
             if is_spelt(text, i, n, b"fn") {
-                return FN;
+                return kinds::FN;
             }
-            word_or_name(text, i, n, b"false", FALSE)
+            word_or_name(text, i, n, b"false", kinds::FALSE)
         }
         b'i' => {
             if is_spelt(text, i, n, b"if") {
-                return IF;
+                return kinds::IF;
             }
-            word_or_name(text, i, n, b"int", INT)
+            word_or_name(text, i, n, b"int", kinds::INT)
         }
-        b'l' => word_or_name(text, i, n, b"let", LET),
-        b'r' => word_or_name(text, i, n, b"return", RETURN),
-        b't' => word_or_name(text, i, n, b"true", TRUE),
-        b'v' => word_or_name(text, i, n, b"var", VAR),
-        b'w' => word_or_name(text, i, n, b"while", WHILE),
-        _ => NAME,
+        b'l' => word_or_name(text, i, n, b"let", kinds::LET),
+        b'r' => word_or_name(text, i, n, b"return", kinds::RETURN),
+        b't' => word_or_name(text, i, n, b"true", kinds::TRUE),
+        b'v' => word_or_name(text, i, n, b"var", kinds::VAR),
+        b'w' => word_or_name(text, i, n, b"while", kinds::WHILE),
+        _ => kinds::NAME,
     }
 }
 
@@ -285,7 +213,7 @@ fn name_at(text: &[u8], i: usize) -> Seen
         return Seen::Fault;
     }
     let k = word_kind(text, i, n);
-    if k == NAME {
+    if k == kinds::NAME {
         return Seen::Token(k, n as u32, n);
     }
     Seen::Token(k, 0, n)
@@ -311,9 +239,9 @@ fn number_end(text: &[u8], i: usize, j: usize, v: u64) -> Seen
         if 1 < j - i {
             return Seen::Fault;
         }
-        return Seen::Token(NUMBER, v as u32, j - i);
+        return Seen::Token(kinds::NUMBER, v as u32, j - i);
     }
-    Seen::Token(NUMBER, v as u32, j - i)
+    Seen::Token(kinds::NUMBER, v as u32, j - i)
 }
 
 // The number at i.
@@ -338,31 +266,38 @@ fn number_at(text: &[u8], i: usize) -> Seen
     number_end(text, i, j, v)
 }
 
+// The kind of a sign of two bytes if c is its second, else that of the shorter sign.
+fn paired(c: u8, second: u8, longer: u32, shorter: u32) -> u32
+    ensures { λ r. ⌜ r ≡ pick (eqb second c) longer shorter ⌝ }
+{
+    if c == second { longer } else { shorter }
+}
+
 // The kind of the sign that the bytes b and c begin with, 0 for none: the longer one if both would do.
 fn sign_kind(b: u8, c: u8) -> u32
     ensures { λ r. ⌜ r ≡ signIn (b ∷ c ∷ []) ⌝ }
 {
     match b {
-        b'=' => if c == b'=' { DOUBLE_EQUALS } else { EQUALS },
-        b'!' => if c == b'=' { BANG_EQUALS } else { BANG },
-        b'<' => if c == b'=' { LESS_EQUALS } else { LESS },
-        b'>' => if c == b'=' { GREATER_EQUALS } else { GREATER },
-        b'&' => if c == b'&' { DOUBLE_AMPERSAND } else { 0 },
-        b'|' => if c == b'|' { DOUBLE_BAR } else { 0 },
-        b'+' => PLUS,
-        b'-' => MINUS,
-        b'*' => STAR,
-        b'/' => SLASH,
-        b'%' => PERCENT,
-        b'(' => LEFT_PAREN,
-        b')' => RIGHT_PAREN,
-        b'{' => LEFT_BRACE,
-        b'}' => RIGHT_BRACE,
-        b'[' => LEFT_BRACKET,
-        b']' => RIGHT_BRACKET,
-        b':' => COLON,
-        b';' => SEMICOLON,
-        b',' => COMMA,
+        b'=' => paired(c, b'=', kinds::DOUBLE_EQUALS, kinds::EQUALS),
+        b'!' => paired(c, b'=', kinds::BANG_EQUALS, kinds::BANG),
+        b'<' => paired(c, b'=', kinds::LESS_EQUALS, kinds::LESS),
+        b'>' => paired(c, b'=', kinds::GREATER_EQUALS, kinds::GREATER),
+        b'&' => paired(c, b'&', kinds::DOUBLE_AMPERSAND, 0),
+        b'|' => paired(c, b'|', kinds::DOUBLE_BAR, 0),
+        b'+' => kinds::PLUS,
+        b'-' => kinds::MINUS,
+        b'*' => kinds::STAR,
+        b'/' => kinds::SLASH,
+        b'%' => kinds::PERCENT,
+        b'(' => kinds::LEFT_PAREN,
+        b')' => kinds::RIGHT_PAREN,
+        b'{' => kinds::LEFT_BRACE,
+        b'}' => kinds::RIGHT_BRACE,
+        b'[' => kinds::LEFT_BRACKET,
+        b']' => kinds::RIGHT_BRACKET,
+        b':' => kinds::COLON,
+        b';' => kinds::SEMICOLON,
+        b',' => kinds::COMMA,
         _ => 0,
     }
 }
@@ -376,7 +311,7 @@ fn sign_at(text: &[u8], i: usize) -> Seen
     if k == 0 {
         return Seen::Fault;
     }
-    if k < PLUS {
+    if k < kinds::PLUS {
         return Seen::Token(k, 0, 2);
     }
     Seen::Token(k, 0, 1)
