@@ -1,3 +1,4 @@
+pub mod Main
 pub mod TokenKinds
 pub mod Sound
 pub mod Complete
@@ -7,3 +8,4 @@ pub mod Writes
 pub mod Steps
 pub mod ExprLaws
 pub mod StmtLaws
+pub mod ItemLaws

@@ -79,21 +79,21 @@ module _ (i : ℕ) {ts : List ℕ} {n : ℕ} where
   unfolding typeOf wordKind
   type-none q a b = fault (λ tok H. rw (kind-not H i 35 q a, kind-not H i 36 q b))
 
-  pub typed-unnamed : {k : ℕ} → k ≡ fieldOf ts n i 0 → (k ≡ 1 → ⊥) → Told type-form (λ tok. typedOf tok i) ts n [] i 0 (Fault i) []
+  pub typed-unnamed : {k : ℕ} → k ≡ fieldOf ts n i 0 → (k ≡ 1 → ⊥) → Told type-form (λ tok. typedOf tok i) ts n [] (i + 1) 0 (Fault i) []
   unfolding typedOf
   typed-unnamed q a = fault (λ tok H. rw (kind-not H i 1 q a))
 
   module _ {k v : ℕ} (q : k ≡ fieldOf ts n i 0) (e : k ≡ 1) (r : v ≡ fieldOf ts n (i + 1) 0) where
-    pub typed-bare : (v ≡ 24 → ⊥) → Told type-form (λ tok. typedOf tok i) ts n [] i 0 (Fault (i + 1)) []
+    pub typed-bare : (v ≡ 24 → ⊥) → Told type-form (λ tok. typedOf tok i) ts n [] (i + 1) 0 (Fault (i + 1)) []
     unfolding typedOf signKind
     typed-bare a = fault (λ tok H. rw (kind-eq H i 1 q e, kind-not H (i + 1) 24 r a))
 
-    pub typed-type : {g : Got} → v ≡ 24 → Told type-form (λ tok. typeOf tok (i + 2)) ts n [] (i + 2) 0 g [] → Told type-form (λ tok. typedOf tok i) ts n [] i 0 g []
+    pub typed-type : {g : Got} → v ≡ 24 → Told type-form (λ tok. typeOf tok (i + 2)) ts n [] (i + 2) 0 g [] → Told type-form (λ tok. typedOf tok i) ts n [] (i + 1) 0 g []
     unfolding typedOf signKind
     typed-type a t = recast (λ tok H t. t) (omega arith) t (λ tok H. rw (kind-eq H i 1 q e, kind-eq H (i + 1) 24 r a) (map-id (typeOf tok (i + 2)))) (λ tok H a. (refl, refl))
 
 -- what is read as a typed name begins with a name
-typed-name : (tok : Row) (i : ℕ) {t : Ty} {j : ℕ} → typedOf tok i ≡ ok t j → kind tok i ≡ 1
+pub typed-name : (tok : Row) (i : ℕ) {t : Ty} {j : ℕ} → typedOf tok i ≡ ok t j → kind tok i ≡ 1
 unfolding typedOf
 typed-name tok i {t} {j} = pickG (λ (o : Out Ty). o ≡ ok t j → kind tok i ≡ 1) (eqb (kind tok i) 1) _ (bad i) (λ b e. eqb-true _ _ b) (λ b e. absurd (let z : _≡_ {A = ℕ} 0 1 = cc in omega arith))
 
@@ -108,7 +108,7 @@ module _ (d i : ℕ) {ts : List ℕ} {n at : ℕ} {xs : List ℕ} where
   unfolding declareOf
   declare-bad b = fault (λ tok H. rw (b tok H))
 
-  module _ {j e t k : ℕ} (a : Found type-form (λ tok. typedOf tok (i + 1)) ts n [] (i + 1) 0 j e t []) (q : k ≡ fieldOf ts n j 0) where
+  module _ {j e t k : ℕ} (a : Found type-form (λ tok. typedOf tok (i + 1)) ts n [] (i + 1 + 1) 0 j e t []) (q : k ≡ fieldOf ts n j 0) where
     pub declare-unset : {ys : List ℕ} → (k ≡ 16 → ⊥) → Told stmt-form (λ tok. declareOf tok d i) ts n xs i at (Fault j) ys
     unfolding declareOf signKind
     declare-unset z = fault (λ tok H. rw (a .says tok H .is, kind-not H j 16 q z))

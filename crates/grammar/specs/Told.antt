@@ -1,6 +1,6 @@
 -- What the functions promise: what they say is what the parser says of the tokens that the words hold, and what they write is its flat form.
 use mathlib.Core.Path.{_≡_}
-use mathlib.Core.List.{List, []}
+use mathlib.Core.List.{List, [], _∷_}
 use mathlib.Core.Option.{Option}
 use Prim.Native.Nat.{ℕ, _+_, _*_, _≤_, _<_}
 use lib.Dec.{ltb, eqb}
@@ -80,6 +80,9 @@ result-form = record { words = λ _. []; tells = resultNumber }
 
 abbrev pub size-form : Form ℕ
 size-form = record { words = λ _. []; tells = λ n. n }
+
+abbrev pub param-form : Form Param
+param-form = record { words = λ x. paramsWords (x ∷ []) []; tells = λ _. 1 }
 
 abbrev pub params-form : Form (List Param)
 params-form = record { words = λ xs. paramsWords xs []; tells = length }

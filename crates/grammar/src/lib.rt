@@ -315,7 +315,7 @@ fn args(ts: &[u32], n: usize, h: usize, d: u32, from: usize, out: &mut [u32], st
         let a = level(ts, n, h, EXPR_LEVEL, d, i, out, at);
         match a {
             Got::Done(j, e, _) => {
-                if field(ts, n, j, 0) != tokens::COMMA {
+                if field(ts, n, j, 0) != tokens::kinds::COMMA {
                     return Got::Done(j, e, c + 1);
                 }
                 i = j + 1;
@@ -339,13 +339,13 @@ fn arguments(ts: &[u32], n: usize, h: usize, d: u32, i: usize, out: &mut [u32], 
     if MOST_OPEN <= d {
         return Got::Fault(i);
     }
-    if field(ts, n, i + 1, 0) == tokens::RIGHT_PAREN {
+    if field(ts, n, i + 1, 0) == tokens::kinds::RIGHT_PAREN {
         return Got::Done(i + 2, at, 0);
     }
     let a = args(ts, n, h, d + 1, i + 1, out, at);
     match a {
         Got::Done(j, e, c) => {
-            if field(ts, n, j, 0) == tokens::RIGHT_PAREN {
+            if field(ts, n, j, 0) == tokens::kinds::RIGHT_PAREN {
                 Got::Done(j + 1, e, c)
             } else {
                 Got::Fault(j)
@@ -393,8 +393,8 @@ fn named(ts: &[u32], n: usize, h: usize, d: u32, i: usize, out: &mut [u32], at: 
     let p = field(ts, n, i, 1);
     let v = field(ts, n, i, 2);
     let k = field(ts, n, i + 1, 0);
-    if k == tokens::LEFT_BRACKET {
-        let a = enclosed(ts, n, h, tokens::RIGHT_BRACKET, d, i + 1, out, at);
+    if k == tokens::kinds::LEFT_BRACKET {
+        let a = enclosed(ts, n, h, tokens::kinds::RIGHT_BRACKET, d, i + 1, out, at);
         match a {
             Got::Done(j, e, _) => {
                 return Got::Done(j, item(out, e, ELEMENT_ITEM, p, v, 0), 1);
@@ -404,7 +404,7 @@ fn named(ts: &[u32], n: usize, h: usize, d: u32, i: usize, out: &mut [u32], at: 
             }
         }
     }
-    if k == tokens::LEFT_PAREN {
+    if k == tokens::kinds::LEFT_PAREN {
         let a = arguments(ts, n, h, d, i + 1, out, at);
         match a {
             Got::Done(j, e, c) => {
@@ -449,29 +449,29 @@ fn primary(ts: &[u32], n: usize, h: usize, d: u32, i: usize, out: &mut [u32], at
     ensures { λ r. ⌜ Told expr-form (λ tok. primaryOf tok (levelled tok h) d i) (now (ts .entry)) n (now (out .entry)) i at r (now (out .exit)) ⌝ }
 {
     let k = field(ts, n, i, 0);
-    if k == tokens::NUMBER {
+    if k == tokens::kinds::NUMBER {
         return Got::Done(
             i + 1,
             item(out, at, NUMBER_ITEM, 0, field(ts, n, i, 2), 0),
             1,
         );
     }
-    if k == tokens::NAME {
+    if k == tokens::kinds::NAME {
         return named(ts, n, h, d, i, out, at);
     }
-    if k == tokens::TRUE {
+    if k == tokens::kinds::TRUE {
         return Got::Done(i + 1, item(out, at, TRUTH_ITEM, 0, 1, 0), 1);
     }
-    if k == tokens::FALSE {
+    if k == tokens::kinds::FALSE {
         return Got::Done(i + 1, item(out, at, TRUTH_ITEM, 0, 0, 0), 1);
     }
-    if k == tokens::LEFT_PAREN {
-        return enclosed(ts, n, h, tokens::RIGHT_PAREN, d, i, out, at);
+    if k == tokens::kinds::LEFT_PAREN {
+        return enclosed(ts, n, h, tokens::kinds::RIGHT_PAREN, d, i, out, at);
     }
-    if k == tokens::MINUS {
+    if k == tokens::kinds::MINUS {
         return unary(ts, n, h, 0, d, i, out, at);
     }
-    if k == tokens::BANG {
+    if k == tokens::kinds::BANG {
         return unary(ts, n, h, 1, d, i, out, at);
     }
     Got::Fault(i)
@@ -540,7 +540,7 @@ fn ended(ts: &[u32], n: usize, d: u32, i: usize, out: &mut [u32], at: usize) -> 
     let e = level(ts, n, EXPR_STEPS, EXPR_LEVEL, d, i, out, at);
     match e {
         Got::Done(j, f, _) => {
-            if field(ts, n, j, 0) == tokens::SEMICOLON {
+            if field(ts, n, j, 0) == tokens::kinds::SEMICOLON {
                 Got::Done(j + 1, f, 1)
             } else {
                 Got::Fault(j)
@@ -590,10 +590,10 @@ fn type_at(ts: &[u32], n: usize, i: usize) -> Got
     ensures { λ r. ⌜ Told type-form (λ tok. typeOf tok i) (now (ts .entry)) n [] i 0 r [] ⌝ }
 {
     let k = field(ts, n, i, 0);
-    if k == tokens::INT {
+    if k == tokens::kinds::INT {
         return Got::Done(i + 1, 0, INT);
     }
-    if k == tokens::BOOL {
+    if k == tokens::kinds::BOOL {
         return Got::Done(i + 1, 0, BOOL);
     }
     Got::Fault(i)
@@ -602,12 +602,12 @@ fn type_at(ts: &[u32], n: usize, i: usize) -> Got
 // name ":" type, told as the type's number.
 fn typed(ts: &[u32], n: usize, i: usize) -> Got
     requires { ⌜ (3 * n ≤ length (now ts)) × (n ≤ 65536) × (i ≤ n) ⌝ }
-    ensures { λ r. ⌜ Told type-form (λ tok. typedOf tok i) (now (ts .entry)) n [] i 0 r [] ⌝ }
+    ensures { λ r. ⌜ Told type-form (λ tok. typedOf tok i) (now (ts .entry)) n [] (i + 1) 0 r [] ⌝ }
 {
-    if field(ts, n, i, 0) != tokens::NAME {
+    if field(ts, n, i, 0) != tokens::kinds::NAME {
         return Got::Fault(i);
     }
-    if field(ts, n, i + 1, 0) != tokens::COLON {
+    if field(ts, n, i + 1, 0) != tokens::kinds::COLON {
         return Got::Fault(i + 1);
     }
     type_at(ts, n, i + 2)
@@ -621,7 +621,7 @@ fn declare(ts: &[u32], n: usize, d: u32, i: usize, out: &mut [u32], at: usize) -
     let t = typed(ts, n, i + 1);
     match t {
         Got::Done(j, _, k) => {
-            if field(ts, n, j, 0) != tokens::EQUALS {
+            if field(ts, n, j, 0) != tokens::kinds::EQUALS {
                 return Got::Fault(j);
             }
             let p = field(ts, n, i + 1, 1);
@@ -638,10 +638,10 @@ fn store(ts: &[u32], n: usize, d: u32, i: usize, out: &mut [u32], at: usize) -> 
     ensures { λ r. ⌜ Told stmt-form (λ tok. storeOf tok d i) (now (ts .entry)) n (now (out .entry)) i at r (now (out .exit)) ⌝ }
 {
     let b = at + HEADER_WORDS;
-    let a = enclosed(ts, n, EXPR_STEPS, tokens::RIGHT_BRACKET, d, i + 1, out, b);
+    let a = enclosed(ts, n, EXPR_STEPS, tokens::kinds::RIGHT_BRACKET, d, i + 1, out, b);
     match a {
         Got::Done(j, e, _) => {
-            if field(ts, n, j, 0) != tokens::EQUALS {
+            if field(ts, n, j, 0) != tokens::kinds::EQUALS {
                 return Got::Fault(j);
             }
             let v = ended(ts, n, d, j + 1, out, e);
@@ -670,7 +670,7 @@ fn run(ts: &[u32], n: usize, d: u32, i: usize, out: &mut [u32], at: usize) -> Go
     let a = arguments(ts, n, EXPR_STEPS, d, i + 1, out, b);
     match a {
         Got::Done(j, e, c) => {
-            if field(ts, n, j, 0) != tokens::SEMICOLON {
+            if field(ts, n, j, 0) != tokens::kinds::SEMICOLON {
                 return Got::Fault(j);
             }
             let p = field(ts, n, i, 1);
@@ -690,15 +690,15 @@ fn change(ts: &[u32], n: usize, d: u32, i: usize, out: &mut [u32], at: usize) ->
     ensures { λ r. ⌜ Told stmt-form (λ tok. changeOf tok d i) (now (ts .entry)) n (now (out .entry)) i at r (now (out .exit)) ⌝ }
 {
     let k = field(ts, n, i + 1, 0);
-    if k == tokens::EQUALS {
+    if k == tokens::kinds::EQUALS {
         let p = field(ts, n, i, 1);
         let x = field(ts, n, i, 2);
         return single(ts, n, d, ASSIGN, p, x, i + 1, out, at);
     }
-    if k == tokens::LEFT_BRACKET {
+    if k == tokens::kinds::LEFT_BRACKET {
         return store(ts, n, d, i, out, at);
     }
-    if k == tokens::LEFT_PAREN {
+    if k == tokens::kinds::LEFT_PAREN {
         return run(ts, n, d, i, out, at);
     }
     Got::Fault(i + 1)
@@ -710,7 +710,7 @@ fn give(ts: &[u32], n: usize, d: u32, i: usize, out: &mut [u32], at: usize) -> G
     ensures { λ r. ⌜ Told stmt-form (λ tok. returnOf tok d i) (now (ts .entry)) n (now (out .entry)) i at r (now (out .exit)) ⌝ }
 {
     let p = field(ts, n, i, 1);
-    if field(ts, n, i + 1, 0) == tokens::SEMICOLON {
+    if field(ts, n, i + 1, 0) == tokens::kinds::SEMICOLON {
         header(out, at, LEAVE, p, 0, 0, 0, 0, 0, 0);
         return Got::Done(i + 2, at + HEADER_WORDS, 1);
     }
@@ -725,7 +725,7 @@ fn block(ts: &[u32], n: usize, h: usize, d: u32, i: usize, out: &mut [u32], at: 
     if h == 0 {
         return Got::Fault(i);
     }
-    if field(ts, n, i, 0) != tokens::LEFT_BRACE {
+    if field(ts, n, i, 0) != tokens::kinds::LEFT_BRACE {
         return Got::Fault(i);
     }
     if MOST_OPEN <= d {
@@ -734,7 +734,7 @@ fn block(ts: &[u32], n: usize, h: usize, d: u32, i: usize, out: &mut [u32], at: 
     let b = stmts(ts, n, h - 1, d + 1, i + 1, out, at);
     match b {
         Got::Done(j, e, c) => {
-            if field(ts, n, j, 0) == tokens::RIGHT_BRACE {
+            if field(ts, n, j, 0) == tokens::kinds::RIGHT_BRACE {
                 Got::Done(j + 1, e, c)
             } else {
                 Got::Fault(j)
@@ -754,7 +754,7 @@ fn stmts(ts: &[u32], n: usize, h: usize, d: u32, from: usize, out: &mut [u32], s
     let mut i = from;
     let mut at = start;
     while 0 < left {
-        if field(ts, n, i, 0) == tokens::RIGHT_BRACE {
+        if field(ts, n, i, 0) == tokens::kinds::RIGHT_BRACE {
             return Got::Done(i, at, c);
         }
         let s = stmt(ts, n, h, d, i, out, at);
@@ -779,22 +779,22 @@ fn stmt(ts: &[u32], n: usize, h: usize, d: u32, i: usize, out: &mut [u32], at: u
     ensures { λ r. ⌜ Told stmt-form (λ tok. stmtOf tok (blockOf tok h) d i) (now (ts .entry)) n (now (out .entry)) i at r (now (out .exit)) ⌝ }
 {
     let k = field(ts, n, i, 0);
-    if k == tokens::NAME {
+    if k == tokens::kinds::NAME {
         return change(ts, n, d, i, out, at);
     }
-    if k == tokens::LET {
+    if k == tokens::kinds::LET {
         return declare(ts, n, d, i, out, at);
     }
-    if k == tokens::IF {
+    if k == tokens::kinds::IF {
         return choose(ts, n, h, d, i, out, at);
     }
-    if k == tokens::WHILE {
+    if k == tokens::kinds::WHILE {
         return repeat(ts, n, h, d, i, out, at);
     }
-    if k == tokens::RETURN {
+    if k == tokens::kinds::RETURN {
         return give(ts, n, d, i, out, at);
     }
-    if k == tokens::EMIT {
+    if k == tokens::kinds::EMIT {
         return single(ts, n, d, EMIT, field(ts, n, i, 1), 0, i, out, at);
     }
     Got::Fault(i)
@@ -840,7 +840,7 @@ fn choose(ts: &[u32], n: usize, h: usize, d: u32, i: usize, out: &mut [u32], at:
                     let p = field(ts, n, i, 1);
                     let w1 = (e - b) as u32;
                     let w2 = (f - e) as u32;
-                    if field(ts, n, k, 0) != tokens::ELSE {
+                    if field(ts, n, k, 0) != tokens::kinds::ELSE {
                         header(out, at, WHEN, p, w2, w1 / 4, 0, c as u32, 0, w1 + w2);
                         return Got::Done(k, f, 1);
                     }
