@@ -8,6 +8,7 @@ use native.Mathlib.Omega.{arith}
 use lib.Dec.{ltb, eqb}
 use lib.ListN.{length, length-append}
 use lib.Seq.{sets}
+use borrow.Author.Tests.{eq-eqb, ne-eqb}
 use Rattle.word.specs.Choice.{pick}
 use Rattle.language.specs.Tree.{Place, Name, Ty, Block, Param, Item}
 use Rattle.language.specs.Tokens.{Word, Sign, Placed}
@@ -203,3 +204,61 @@ module _ (i : ℕ) {ts : List ℕ} {n at k₁ : ℕ} {xs : List ℕ} (q₁ : k�
           pub function-body-bad : {p : ℕ} {zs : List ℕ} → ((tok : Row) → Holds tok ts n → blockOf tok 33 0 m ≡ bad p) → Told item-form (λ tok. functionOf tok i) ts n xs i at (Fault p) zs
           unfolding functionOf bodyOf signKind
           function-body-bad h = fault (λ tok H. rw (kind-eq H (i + 1) 1 q₁ e₁, kind-eq H (i + 2) 18 q₂ e₂, a .says tok H .is, kind-eq H j 19 q z, r .says tok H .is, h tok H))
+
+          pub function-done : {l f c′ p v w₂ w : ℕ} {zs us : List ℕ} → b ≡ at + 8 → Found block-form (λ tok. blockOf tok 33 0 m) ts n ys m e l f c′ zs → p ≡ fieldOf ts n (i + 1) 1 → v ≡ fieldOf ts n (i + 1) 2 → w₂ ≡ f - e → w ≡ f - b
+              → us ≡ sets zs at (1 ∷ p ∷ v ∷ c ∷ t ∷ c′ ∷ w₂ ∷ w ∷ []) → Told item-form (λ tok. functionOf tok i) ts n xs i at (Done l f 1) us
+          unfolding functionOf bodyOf signKind itemWords
+          function-done {l} {f} {c′} {p} {v} {w₂} {w} g h r₁ r₂ t₂ t₃ y =
+              front-two (λ tok H xs b. Item.function (placeIn (tok (i + 1))) (nameIn (tok (i + 1))) xs (r .says tok H .value) b) (1 ∷ p ∷ v ∷ c ∷ t ∷ c′ ∷ w₂ ∷ w ∷ []) g a h y (h .within) (omega (arith, a .small, h .small, r .small)) (omega arith)
+              (λ tok H ps s o o′ v₁ v₂ u u′.
+              let u₂ : w₂ ≡ length (blockWords s []) = omega (arith, t₂, u′) in
+              let u₃ : w ≡ length (paramsWords ps []) + length (blockWords s []) = omega (arith, t₃, u, u′) in
+              (rw (kind-eq H (i + 1) 1 q₁ e₁, kind-eq H (i + 2) 18 q₂ e₂, o, kind-eq H j 19 q z, r .says tok H .is, o′), rw (place-is H (i + 1) r₁, name-length H (i + 1) q₁ e₁ r₂, sym v₁, sym (r .says tok H .told), sym v₂, sym u₃, sym u₂) (ap (λ (m : List ℕ). 1 ∷ p ∷ v ∷ c ∷ t ∷ c′ ∷ w₂ ∷ w ∷ m) (params-linear ps (blockWords s []))), refl))
+
+-- `item_at`
+module _ (i : ℕ) {ts : List ℕ} {n at k : ℕ} {xs : List ℕ} (q : k ≡ fieldOf ts n i 0) where
+  pub item-array : {r : Got} {ys : List ℕ} → k ≡ 27 → Told item-form (λ tok. arrayOf tok i) ts n xs i at r ys → Told item-form (λ tok. itemOf tok i) ts n xs i at r ys
+  unfolding itemOf wordKind
+  item-array e t = same (λ tok H. rw (kind-eq H i 27 q e)) t
+
+  pub item-function : {r : Got} {ys : List ℕ} → k ≡ 28 → Told item-form (λ tok. functionOf tok i) ts n xs i at r ys → Told item-form (λ tok. itemOf tok i) ts n xs i at r ys
+  unfolding itemOf wordKind
+  item-function e t = same (λ tok H. rw (kind-eq H i 28 q e)) t
+
+  pub item-none : {ys : List ℕ} → (k ≡ 27 → ⊥) → (k ≡ 28 → ⊥) → Told item-form (λ tok. itemOf tok i) ts n xs i at (Fault i) ys
+  unfolding itemOf wordKind
+  item-none a b = fault (λ tok H. rw (kind-not H i 27 q a, kind-not H i 28 q b))
+
+-- `items`
+module _ (count m i : ℕ) where
+  items-step : (tok : Row) → 0 < m → itemsOf tok count m i ≡ pick (eqb i count) (ok [] i) (next (itemOf tok i) (λ x j. map (λ xs. x ∷ xs) (itemsOf tok count (m - 1) j)))
+  unfolding itemsOf
+  items-step tok = go m
+    where
+      go : (m : ℕ) → 0 < m → itemsOf tok count m i ≡ pick (eqb i count) (ok [] i) (next (itemOf tok i) (λ x j. map (λ xs. x ∷ xs) (itemsOf tok count (m - 1) j)))
+      go zero z = absurd (omega arith)
+      go (suc m) z = let q : m ≡ suc m - 1 = omega arith in ap (λ (m : ℕ). pick (eqb i count) (ok [] i) (next (itemOf tok i) (λ x j. map (λ xs. x ∷ xs) (itemsOf tok count m j)))) q
+
+  items-on : (tok : Row) → 0 < m → (i ≡ count → ⊥) → itemsOf tok count m i ≡ next (itemOf tok i) (λ x j. map (λ xs. x ∷ xs) (itemsOf tok count (m - 1) j))
+  items-on tok z e = items-step tok z ∙ ap (λ (b : Bool). pick b (ok [] i) (next (itemOf tok i) (λ x j. map (λ xs. x ∷ xs) (itemsOf tok count (m - 1) j)))) (ne-eqb i count e)
+
+  module _ {ts : List ℕ} {n : ℕ} {f : Row → Out (List Item)} {s start at c : ℕ} {xs ys : List ℕ} (a : Going items-form f (λ tok. itemsOf tok count m i) ts n xs s start i at c ys) where
+    pub items-out : m ≤ 0 → Told items-form f ts n xs s start (Fault i) ys
+    unfolding itemsOf
+    items-out z = let q : m ≡ 0 = omega arith in goes-fault a (λ tok H. ap (λ (m : ℕ). itemsOf tok count m i) q)
+
+    pub items-end : 0 < m → c + m ≤ 65537 → i ≡ count → Told items-form f ts n xs s start (Done i at c) ys
+    unfolding itemsWords
+    items-end z l e =
+        goes-done a (leaf (λ tok. []) [] refl (omega arith) (a .within) (omega arith) (omega arith)
+        (λ tok H. (items-step tok z ∙ ap (λ (b : Bool). pick b (ok [] i) (next (itemOf tok i) (λ x j. map (λ xs. x ∷ xs) (itemsOf tok count (m - 1) j)))) (eq-eqb i count e), refl, refl))) (omega arith) (omega arith)
+
+    pub items-bad : {p : ℕ} {zs : List ℕ} → 0 < m → (i ≡ count → ⊥) → ((tok : Row) → Holds tok ts n → itemOf tok i ≡ bad p) → Told items-form f ts n xs s start (Fault p) zs
+    items-bad z e b = goes-fault a (λ tok H. items-on tok z e ∙ ap (λ (o : Out Item). next o (λ x j. map (λ xs. x ∷ xs) (itemsOf tok count (m - 1) j))) (b tok H))
+
+    pub items-again : {j e x : ℕ} {zs : List ℕ} → 0 < m → (i ≡ count → ⊥) → Found item-form (λ tok. itemOf tok i) ts n ys i at j e x zs → Going items-form f (λ tok. itemsOf tok count (m - 1) j) ts n xs s start j e (c + 1) zs
+    unfolding itemsWords
+    items-again z e b =
+        goes-on (λ tok x xs. x ∷ xs) 1 a b (omega arith) (b .within) refl
+        (λ tok H x o. items-on tok z e ∙ ap (λ (o : Out Item). next o (λ x j. map (λ xs. x ∷ xs) (itemsOf tok count (m - 1) j))) o)
+        (λ tok x xs. (item-linear x (itemsWords xs []), omega arith))

@@ -136,10 +136,10 @@ pub after : {ys zs : List ℕ} {e : ℕ} (xs : List ℕ) (at : ℕ) (u v : List 
 after {ys} {zs} {e} xs at u v p q r = r ∙ ap (λ (w : List ℕ). sets w e v) p ∙ ap (λ (k : ℕ). sets (sets xs at u) k v) q ∙ sets-append xs at u v
 
 -- words before two parts, written after them
-pub front-two : {A B C : Type 0} {F : Form A} {G : Form B} {K : Form C} {f : Row → Out A} {g : Row → Out B} {k : Row → Out C} {ts : List ℕ} {n i i′ at b j j′ e c j″ e″ c″ x m : ℕ} {xs ys zs us : List ℕ} (φ : Row → A → B → C) (w : List ℕ)
+pub front-two : {A B C : Type 0} {F : Form A} {G : Form B} {K : Form C} {f : Row → Out A} {g : Row → Out B} {k : Row → Out C} {ts : List ℕ} {n i i′ at b j j′ e c j″ e″ c″ x m : ℕ} {xs ys zs us : List ℕ} (φ : (tok : Row) → Holds tok ts n → A → B → C) (w : List ℕ)
     → b ≡ at + length w → Found F f ts n xs i′ b j e c ys → Found G g ts n ys j′ e j″ e″ c″ zs → us ≡ sets zs at w → x ≤ n → e″ + 8 * i ≤ at + 8 * x → m < 4294967296
-    → ((tok : Row) → Holds tok ts n → (a : A) (a′ : B) → f tok ≡ ok a j → g tok ≡ ok a′ j″ → c ≡ F .tells a → c″ ≡ G .tells a′ → e ≡ b + length (F .words a) → e″ ≡ e + length (G .words a′)
-    → (k tok ≡ ok (φ tok a a′) x) × (K .words (φ tok a a′) ≡ w ++ (F .words a ++ G .words a′)) × (m ≡ K .tells (φ tok a a′))) → Told K k ts n xs i at (Done x e″ m) us
+    → ((tok : Row) (H : Holds tok ts n) (a : A) (a′ : B) → f tok ≡ ok a j → g tok ≡ ok a′ j″ → c ≡ F .tells a → c″ ≡ G .tells a′ → e ≡ b + length (F .words a) → e″ ≡ e + length (G .words a′)
+    → (k tok ≡ ok (φ tok H a a′) x) × (K .words (φ tok H a a′) ≡ w ++ (F .words a ++ G .words a′)) × (m ≡ K .tells (φ tok H a a′))) → Told K k ts n xs i at (Done x e″ m) us
 front-two {F = F} {G = G} {K = K} {f = f} {g = g} {k = k} {at = at} {b = b} {j = j} {e = e} {c = c} {j″ = j″} {e″ = e″} {c″ = c″} {x = x} {m = m} {xs = xs} {ys = ys} {zs = zs} φ w q h h′ z l s fit y =
     record {
       by = record {
@@ -150,9 +150,9 @@ front-two {F = F} {G = G} {K = K} {f = f} {g = g} {k = k} {at = at} {b = b} {j =
         says = λ tok H.
             let a : Says F (f tok) xs b j e c ys = h .says tok H in
             let a′ : Says G (g tok) ys e j″ e″ c″ zs = h′ .says tok H in
-            let r : (k tok ≡ ok (φ tok (a .value) (a′ .value)) x) × (K .words (φ tok (a .value) (a′ .value)) ≡ w ++ (F .words (a .value) ++ G .words (a′ .value))) × (m ≡ K .tells (φ tok (a .value) (a′ .value))) = y tok H (a .value) (a′ .value) (a .is) (a′ .is) (a .told) (a′ .told) (a .end) (a′ .end) in
+            let r : (k tok ≡ ok (φ tok H (a .value) (a′ .value)) x) × (K .words (φ tok H (a .value) (a′ .value)) ≡ w ++ (F .words (a .value) ++ G .words (a′ .value))) × (m ≡ K .tells (φ tok H (a .value) (a′ .value))) = y tok H (a .value) (a′ .value) (a .is) (a′ .is) (a .told) (a′ .told) (a .end) (a′ .end) in
             record {
-              value = φ tok (a .value) (a′ .value);
+              value = φ tok H (a .value) (a′ .value);
               is = r .0;
               told = r .2;
               end = rw (r .1) (simp length-append (omega (arith, q, a .end, a′ .end)));

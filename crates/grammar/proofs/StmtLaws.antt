@@ -138,7 +138,7 @@ module _ (d i : ℕ) {ts : List ℕ} {n at : ℕ} {xs : List ℕ} where
         → us ≡ sets zs at (1 ∷ p ∷ v ∷ w₁ / 4 ∷ w₂ / 4 ∷ 0 ∷ 0 ∷ (w₁ + w₂) ∷ []) → Told stmt-form (λ tok. storeOf tok d i) ts n xs i at (Done m f 1) us
     unfolding storeOf indexOf signKind stmtWords
     store-done {m} {f} {c′} {p} {v} {w₁} {w₂} z l o h r s t t′ y =
-        front-two (λ tok x y. Stmt.store (placeIn (tok i)) (nameIn (tok i)) x y) (1 ∷ p ∷ v ∷ w₁ / 4 ∷ w₂ / 4 ∷ 0 ∷ 0 ∷ (w₁ + w₂) ∷ []) l a h y (h .within) (omega (arith, a .small, h .small)) (omega arith)
+        front-two (λ tok H x y. Stmt.store (placeIn (tok i)) (nameIn (tok i)) x y) (1 ∷ p ∷ v ∷ w₁ / 4 ∷ w₂ / 4 ∷ 0 ∷ 0 ∷ (w₁ + w₂) ∷ []) l a h y (h .within) (omega (arith, a .small, h .small)) (omega arith)
         (λ tok H x x′ g g′ _ _ u u′.
         let u₁ : w₁ ≡ exprLength x = omega (arith, t, u) in
         let u₂ : w₂ ≡ exprLength x′ = omega (arith, t′, u′) in
@@ -329,7 +329,7 @@ module _ (h d i : ℕ) {ts : List ℕ} {n at : ℕ} {xs : List ℕ} where
         → Told stmt-form (λ tok. whileOf tok (blockOf tok h) d i) ts n xs i at (Done m f 1) us
     unfolding whileOf exprOf stmtWords
     while-done {m} {f} {c′} {p} {w₁} {w₂} l g r t t′ y =
-        front-two (λ tok x y. Stmt.while (placeIn (tok i)) x y) (3 ∷ p ∷ w₂ ∷ w₁ / 4 ∷ 0 ∷ c′ ∷ 0 ∷ (w₁ + w₂) ∷ []) l a g y (g .within) (omega (arith, a .small, g .small)) (omega arith)
+        front-two (λ tok H x y. Stmt.while (placeIn (tok i)) x y) (3 ∷ p ∷ w₂ ∷ w₁ / 4 ∷ 0 ∷ c′ ∷ 0 ∷ (w₁ + w₂) ∷ []) l a g y (g .within) (omega (arith, a .small, g .small)) (omega arith)
         (λ tok H x s o o′ _ v u u′.
         let u₁ : w₁ ≡ exprLength x = omega (arith, t, u) in
         let u₂ : w₂ ≡ length (blockWords s []) = omega (arith, t′, u′) in
@@ -343,7 +343,7 @@ module _ (h d i : ℕ) {ts : List ℕ} {n at : ℕ} {xs : List ℕ} where
       pub if-when : {us : List ℕ} → (k ≡ 31 → ⊥) → us ≡ sets zs at (8 ∷ p ∷ w₂ ∷ w₁ / 4 ∷ 0 ∷ c′ ∷ 0 ∷ (w₁ + w₂) ∷ []) → Told stmt-form (λ tok. ifOf tok (blockOf tok h) d i) ts n xs i at (Done m f 1) us
       unfolding ifOf elseOf exprOf stmtWords wordKind
       if-when z y =
-          front-two (λ tok x y. Stmt.when (placeIn (tok i)) x y) (8 ∷ p ∷ w₂ ∷ w₁ / 4 ∷ 0 ∷ c′ ∷ 0 ∷ (w₁ + w₂) ∷ []) l a g y (g .within) (omega (arith, a .small, g .small)) (omega arith)
+          front-two (λ tok H x y. Stmt.when (placeIn (tok i)) x y) (8 ∷ p ∷ w₂ ∷ w₁ / 4 ∷ 0 ∷ c′ ∷ 0 ∷ (w₁ + w₂) ∷ []) l a g y (g .within) (omega (arith, a .small, g .small)) (omega arith)
           (λ tok H x s o o′ _ v u u′.
           let u₁ : w₁ ≡ exprLength x = omega (arith, t, u) in
           let u₂ : w₂ ≡ length (blockWords s []) = omega (arith, t′, u′) in
