@@ -22,6 +22,10 @@ use Rattle.grammar.proofs.FlatLaws.{params-linear, block-linear, item-l
 use Rattle.grammar.proofs.Steps.{hit, miss, found, fault, same, leaf, close, front, recast, after, front-two, Going, begun, goes-done, goes-fault, goes-on, map-id, kind-is, kind-not, kind-eq, name-length, number-is, place-is}
 use Rattle.grammar.proofs.StmtLaws.{typed-name}
 
+-- room after a function's parameters
+pub room-gap3 : {A : Type 0} {F : Form A} {f : Row → Out A} {ts : List ℕ} {n i at b j e c : ℕ} {xs ys : List ℕ} → Room ts n xs i at → b ≡ at + 8 → Found F f ts n xs (i + 3) b j e c ys → length ys ≡ length xs → (k : ℕ) → j ≤ k → k ≤ n → Room ts n ys k e
+room-gap3 r z f q k l l′ = record { few = r .few; held = r .held; begins = l′; free = omega (arith, r .free, f .small) }
+
 -- `parameter`
 module _ (i : ℕ) {ts : List ℕ} {n at : ℕ} {xs : List ℕ} where
   pub param-bad : {p : ℕ} {ys : List ℕ} → ((tok : Row) → Holds tok ts n → typedOf tok i ≡ bad p) → Told param-form (λ tok. paramOf tok i) ts n xs i at (Fault p) ys
@@ -75,8 +79,8 @@ module _ (m i : ℕ) where
     unfolding paramsWords
     params-last {j} {e} {x} {k} {zs} z l b q r =
         let o : Told params-form (λ tok. paramListOf tok m i) ts n ys i at (Done j e 1) zs =
-            close (λ tok a. a ∷ []) [] b refl (omega arith) (b .within) (b .small) (omega arith)
-            (λ tok H a o _. (params-next tok z o ∙ ap (λ (t : Bool). pick t (map (λ xs. a ∷ xs) (paramListOf tok (m - 1) (j + 1))) (ok (a ∷ []) j)) (kind-not H j 26 q r), refl, refl)) in
+        close (λ tok a. a ∷ []) [] b refl (omega arith) (b .within) (b .small) (omega arith)
+        (λ tok H a o _. (params-next tok z o ∙ ap (λ (t : Bool). pick t (map (λ xs. a ∷ xs) (paramListOf tok (m - 1) (j + 1))) (ok (a ∷ []) j)) (kind-not H j 26 q r), refl, refl)) in
         goes-done a o refl (omega arith)
 
     pub params-again : {j e x k : ℕ} {zs : List ℕ} → 0 < m → Found param-form (λ tok. paramOf tok i) ts n ys i at j e x zs → k ≡ fieldOf ts n j 0 → k ≡ 26 → j < n → Going params-form f (λ tok. paramListOf tok (m - 1) (j + 1)) ts n xs s start (j + 1) e (c + 1) zs

@@ -6,8 +6,8 @@ ghost use lib.ListN.{length};
 ghost use lib.Seq.{sets};
 ghost use lib.Dec.{eqb};
 ghost use Rattle.word.specs.Choice.{pick};
-ghost use Rattle.grammar.specs.Parse.{levelOf, meansOf, most, levelled, restOf, exprsOf, argumentsOf, enclosedOf, namedOf, unaryOf, primaryOf, endedOf, typeOf, typedOf, declareOf, storeOf, runOf, changeOf, returnOf, whileOf, ifOf, stmtOf, stmtsOf, blockOf};
-ghost use Rattle.grammar.specs.Told.{fieldOf, itemKind, itemNumber, operandOf, unaryAt, Told, Room, expr-form, right-form, tail-form, args-form, single-form, type-form, stmt-form, block-form};
+ghost use Rattle.grammar.specs.Parse.{levelOf, meansOf, most, levelled, restOf, exprsOf, argumentsOf, enclosedOf, namedOf, unaryOf, primaryOf, endedOf, typeOf, typedOf, declareOf, storeOf, runOf, changeOf, returnOf, whileOf, ifOf, stmtOf, stmtsOf, blockOf, paramOf, paramListOf, paramsOf, resultOf, sizeOf, arrayOf, functionOf, itemOf, itemsOf};
+ghost use Rattle.grammar.specs.Told.{fieldOf, itemKind, itemNumber, operandOf, unaryAt, Told, Room, expr-form, right-form, tail-form, args-form, single-form, type-form, stmt-form, block-form, param-form, params-form, result-form, size-form, item-form, items-form};
 
 // How far it went: the next token, the next free word, and a number that the thing tells. Or the token at fault.
 pub enum Got {
@@ -638,7 +638,16 @@ fn store(ts: &[u32], n: usize, d: u32, i: usize, out: &mut [u32], at: usize) -> 
     ensures { λ r. ⌜ Told stmt-form (λ tok. storeOf tok d i) (now (ts .entry)) n (now (out .entry)) i at r (now (out .exit)) ⌝ }
 {
     let b = at + HEADER_WORDS;
-    let a = enclosed(ts, n, EXPR_STEPS, tokens::kinds::RIGHT_BRACKET, d, i + 1, out, b);
+    let a = enclosed(
+        ts,
+        n,
+        EXPR_STEPS,
+        tokens::kinds::RIGHT_BRACKET,
+        d,
+        i + 1,
+        out,
+        b,
+    );
     match a {
         Got::Done(j, e, _) => {
             if field(ts, n, j, 0) != tokens::kinds::EQUALS {
@@ -859,4 +868,219 @@ fn choose(ts: &[u32], n: usize, h: usize, d: u32, i: usize, out: &mut [u32], at:
         }
         Got::Fault(q) => Got::Fault(q),
     }
+}
+
+// The kinds of declarations.
+const ARRAY: u32 = 0;
+
+const FUNCTION: u32 = 1;
+
+// A parameter's three words; the next free word.
+fn put_param(out: &mut [u32], at: usize, p: u32, x: u32, t: u32) -> usize
+    requires { ⌜ at + 3 ≤ length (now out) ⌝ }
+    ensures { λ r. ⌜ (r ≡ at + 3) × (now (out .exit) ≡ sets (now (out .entry)) at (p ∷ x ∷ t ∷ [])) ⌝ }
+{
+    out[at] = p;
+    out[at + 1] = x;
+    out[at + 2] = t;
+    at + 3
+}
+
+// param = name ":" type
+fn param(ts: &[u32], n: usize, i: usize, out: &mut [u32], at: usize) -> Got
+    requires { ⌜ Room (now ts) n (now out) i at ⌝ }
+    ensures { λ r. ⌜ Told param-form (λ tok. paramOf tok i) (now (ts .entry)) n (now (out .entry)) i at r (now (out .exit)) ⌝ }
+{
+    let t = typed(ts, n, i);
+    match t {
+        Got::Done(j, _, k) => {
+            let p = field(ts, n, i, 1);
+            let x = field(ts, n, i, 2);
+            Got::Done(j, put_param(out, at, p, x, k as u32), 1)
+        }
+        Got::Fault(q) => Got::Fault(q),
+    }
+}
+
+// param { "," param }
+fn params(ts: &[u32], n: usize, from: usize, out: &mut [u32], start: usize) -> Got
+    requires { ⌜ Room (now ts) n (now out) from start ⌝ }
+    ensures { λ r. ⌜ Told params-form (λ tok. paramListOf tok 65536 from) (now (ts .entry)) n (now (out .entry)) from start r (now (out .exit)) ⌝ }
+{
+    let mut left = MANY;
+    let mut c: usize = 0;
+    let mut i = from;
+    let mut at = start;
+    while 0 < left {
+        let a = param(ts, n, i, out, at);
+        match a {
+            Got::Done(j, e, _) => {
+                if field(ts, n, j, 0) != tokens::kinds::COMMA {
+                    return Got::Done(j, e, c + 1);
+                }
+                i = j + 1;
+                at = e;
+                c += 1;
+            }
+            Got::Fault(p) => {
+                return Got::Fault(p);
+            }
+        }
+        left -= 1;
+    }
+    Got::Fault(i)
+}
+
+// [ param { "," param } ]
+fn parameters(ts: &[u32], n: usize, i: usize, out: &mut [u32], at: usize) -> Got
+    requires { ⌜ Room (now ts) n (now out) i at ⌝ }
+    ensures { λ r. ⌜ Told params-form (λ tok. paramsOf tok i) (now (ts .entry)) n (now (out .entry)) i at r (now (out .exit)) ⌝ }
+{
+    if field(ts, n, i, 0) == tokens::kinds::RIGHT_PAREN {
+        return Got::Done(i, at, 0);
+    }
+    params(ts, n, i, out, at)
+}
+
+// [ ":" type ], told as a number: 0 for none.
+fn result(ts: &[u32], n: usize, i: usize) -> Got
+    requires { ⌜ (3 * n ≤ length (now ts)) × (n ≤ 65536) × (i ≤ n) ⌝ }
+    ensures { λ r. ⌜ Told result-form (λ tok. resultOf tok i) (now (ts .entry)) n [] i 0 r [] ⌝ }
+{
+    if field(ts, n, i, 0) != tokens::kinds::COLON {
+        return Got::Done(i, 0, 0);
+    }
+    type_at(ts, n, i + 1)
+}
+
+// "[" number "]" ";", told as the number.
+fn size(ts: &[u32], n: usize, i: usize) -> Got
+    requires { ⌜ (3 * n ≤ length (now ts)) × (n ≤ 65536) × (i ≤ n) ⌝ }
+    ensures { λ r. ⌜ Told size-form (λ tok. sizeOf tok i) (now (ts .entry)) n [] i 0 r [] ⌝ }
+{
+    if field(ts, n, i, 0) != tokens::kinds::LEFT_BRACKET {
+        return Got::Fault(i);
+    }
+    if field(ts, n, i + 1, 0) != tokens::kinds::NUMBER {
+        return Got::Fault(i + 1);
+    }
+    if field(ts, n, i + 2, 0) != tokens::kinds::RIGHT_BRACKET {
+        return Got::Fault(i + 2);
+    }
+    if field(ts, n, i + 3, 0) != tokens::kinds::SEMICOLON {
+        return Got::Fault(i + 3);
+    }
+    Got::Done(i + 4, 0, field(ts, n, i + 1, 2) as usize)
+}
+
+// array = "var" name ":" "int" "[" number "]" ";"
+fn array(ts: &[u32], n: usize, i: usize, out: &mut [u32], at: usize) -> Got
+    requires { ⌜ (Room (now ts) n (now out) i at) × (i < n) ⌝ }
+    ensures { λ r. ⌜ Told item-form (λ tok. arrayOf tok i) (now (ts .entry)) n (now (out .entry)) i at r (now (out .exit)) ⌝ }
+{
+    let b = at + HEADER_WORDS;
+    if field(ts, n, i + 1, 0) != tokens::kinds::NAME {
+        return Got::Fault(i + 1);
+    }
+    if field(ts, n, i + 2, 0) != tokens::kinds::COLON {
+        return Got::Fault(i + 2);
+    }
+    if field(ts, n, i + 3, 0) != tokens::kinds::INT {
+        return Got::Fault(i + 3);
+    }
+    let s = size(ts, n, i + 4);
+    match s {
+        Got::Done(j, _, v) => {
+            let p = field(ts, n, i + 1, 1);
+            let x = field(ts, n, i + 1, 2);
+            header(out, at, ARRAY, p, x, v as u32, 0, 0, 0, 0);
+            Got::Done(j, b, 1)
+        }
+        Got::Fault(q) => Got::Fault(q),
+    }
+}
+
+// function = "fn" name "(" [ param { "," param } ] ")" [ ":" type ] block; the header is written in the gap before parameters and body.
+fn function(ts: &[u32], n: usize, i: usize, out: &mut [u32], at: usize) -> Got
+    requires { ⌜ (Room (now ts) n (now out) i at) × (i < n) ⌝ }
+    ensures { λ r. ⌜ Told item-form (λ tok. functionOf tok i) (now (ts .entry)) n (now (out .entry)) i at r (now (out .exit)) ⌝ }
+{
+    if field(ts, n, i + 1, 0) != tokens::kinds::NAME {
+        return Got::Fault(i + 1);
+    }
+    if field(ts, n, i + 2, 0) != tokens::kinds::LEFT_PAREN {
+        return Got::Fault(i + 2);
+    }
+    let b = at + HEADER_WORDS;
+    let a = parameters(ts, n, i + 3, out, b);
+    match a {
+        Got::Done(j, e, c) => {
+            if field(ts, n, j, 0) != tokens::kinds::RIGHT_PAREN {
+                return Got::Fault(j);
+            }
+            let t = result(ts, n, j + 1);
+            match t {
+                Got::Done(m, _, v) => {
+                    let body = block(ts, n, BLOCK_STEPS, 0, m, out, e);
+                    match body {
+                        Got::Done(l, f, s) => {
+                            let p = field(ts, n, i + 1, 1);
+                            let x = field(ts, n, i + 1, 2);
+                            let w = (f - e) as u32;
+                            let v2 = (f - b) as u32;
+                            header(out, at, FUNCTION, p, x, c as u32, v as u32, s as u32, w, v2);
+                            Got::Done(l, f, 1)
+                        }
+                        Got::Fault(q) => Got::Fault(q),
+                    }
+                }
+                Got::Fault(q) => Got::Fault(q),
+            }
+        }
+        Got::Fault(q) => Got::Fault(q),
+    }
+}
+
+// array | function, by its first word.
+fn item_at(ts: &[u32], n: usize, i: usize, out: &mut [u32], at: usize) -> Got
+    requires { ⌜ Room (now ts) n (now out) i at ⌝ }
+    ensures { λ r. ⌜ Told item-form (λ tok. itemOf tok i) (now (ts .entry)) n (now (out .entry)) i at r (now (out .exit)) ⌝ }
+{
+    let k = field(ts, n, i, 0);
+    if k == tokens::kinds::VAR {
+        return array(ts, n, i, out, at);
+    }
+    if k == tokens::kinds::FN {
+        return function(ts, n, i, out, at);
+    }
+    Got::Fault(i)
+}
+
+// program = { array | function }, all n tokens of it.
+fn items(ts: &[u32], n: usize, out: &mut [u32]) -> Got
+    requires { ⌜ Room (now ts) n (now out) 0 0 ⌝ }
+    ensures { λ r. ⌜ Told items-form (λ tok. itemsOf tok n 65537 0) (now (ts .entry)) n (now (out .entry)) 0 0 r (now (out .exit)) ⌝ }
+{
+    let mut left = MANY + 1;
+    let mut c: usize = 0;
+    let mut i: usize = 0;
+    let mut at: usize = 0;
+    while 0 < left {
+        if i == n {
+            return Got::Done(i, at, c);
+        }
+        let x = item_at(ts, n, i, out, at);
+        match x {
+            Got::Done(j, e, _) => {
+                i = j;
+                at = e;
+                c += 1;
+            }
+            Got::Fault(p) => {
+                return Got::Fault(p);
+            }
+        }
+        left -= 1;
+    }
+    Got::Fault(i)
 }
