@@ -1,0 +1,11 @@
+pub mod Main
+pub mod TokenKinds
+pub mod Sound
+pub mod Complete
+pub mod FlatLaws
+pub mod Tables
+pub mod Writes
+pub mod Steps
+pub mod ExprLaws
+pub mod StmtLaws
+pub mod ItemLaws
