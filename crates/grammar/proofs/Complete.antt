@@ -684,7 +684,7 @@ module _ (tok : ℕ → Option Placed) where
         c-items-then k n i (omega (arith, item-complete x .1, on-items r)) (λ e. omega (arith, item-complete x .1, on-items r)) (item-complete x .0) (items-complete r (n - 1) m (omega (arith, item-complete x .1)))
 
 -- past the end of a list
-past : (ts : List Placed) (k : ℕ) → length ts ≤ k → nth ts k ≡ Option.none
+pub past : (ts : List Placed) (k : ℕ) → length ts ≤ k → nth ts k ≡ Option.none
 unfolding nth
 past [] k h = refl
 past (t ∷ ts) zero h = absurd (omega arith)

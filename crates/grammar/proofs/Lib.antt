@@ -9,3 +9,4 @@ pub mod Steps
 pub mod ExprLaws
 pub mod StmtLaws
 pub mod ItemLaws
+pub mod Whole

@@ -16,7 +16,7 @@ use Rattle.grammar.specs.Parse.{Out, Out.ok, Out.bad, many, programOf, a
 use Rattle.grammar.proofs.Sound.{program-sound}
 use Rattle.grammar.proofs.Complete.{program-complete}
 
-few : {text : List ℕ} {ts : List Placed} → Readable text ts → length ts ≤ many
+pub few : {text : List ℕ} {ts : List Placed} → Readable text ts → length ts ≤ many
 few h = omega (arith, tokens-few h, h .short)
 
 -- a tree that is given derives
@@ -29,12 +29,12 @@ from-tokens text items (good ts) q e = go (programOf ts) refl e
     go (ok xs j) r e = let x : xs ≡ items = cc in record { tokens = ts; reads = tokens-sound text ts q; derives = program-sound ts items j (r ∙ ap (λ (x : List Item). ok x j) x) }
     go (bad p) r e = absurd (let z : _≡_ {A = ℕ} 0 1 = cc in omega arith)
 
-tree-sound : (text : List ℕ) (items : List Item) → treeOf text ≡ good items → Parses text items
+pub tree-sound : (text : List ℕ) (items : List Item) → treeOf text ≡ good items → Parses text items
 unfolding treeOf
 tree-sound text items e = from-tokens text items (tokensOf text) refl e
 
 -- a tree that derives is given
-tree-complete : (text : List ℕ) (items : List Item) → Parses text items → treeOf text ≡ good items
+pub tree-complete : (text : List ℕ) (items : List Item) → Parses text items → treeOf text ≡ good items
 unfolding treeOf treeIn answerOf
 tree-complete text items h =
     ap (treeIn (length text)) (tokens-complete text (h .tokens) (h .reads)) ∙ ap (answerOf (h .tokens) (length text)) (program-complete (h .tokens) items (few (h .reads)) (h .derives))

@@ -1,3 +1,4 @@
 pub mod Parse
 pub mod Flat
 pub mod Told
+pub mod Answers

@@ -7,12 +7,20 @@ ghost use lib.Seq.{sets};
 ghost use lib.Dec.{eqb};
 ghost use Rattle.word.specs.Choice.{pick};
 ghost use Rattle.grammar.specs.Parse.{levelOf, meansOf, most, levelled, restOf, exprsOf, argumentsOf, enclosedOf, namedOf, unaryOf, primaryOf, endedOf, typeOf, typedOf, declareOf, storeOf, runOf, changeOf, returnOf, whileOf, ifOf, stmtOf, stmtsOf, blockOf, paramOf, paramListOf, paramsOf, resultOf, sizeOf, arrayOf, functionOf, itemOf, itemsOf};
+ghost use Rattle.grammar.specs.Answers.{Answers};
 ghost use Rattle.grammar.specs.Told.{fieldOf, itemKind, itemNumber, operandOf, unaryAt, Told, Room, expr-form, right-form, tail-form, args-form, single-form, type-form, stmt-form, block-form, param-form, params-form, result-form, size-form, item-form, items-form};
 
 // How far it went: the next token, the next free word, and a number that the thing tells. Or the token at fault.
 pub enum Got {
     Done(usize, usize, usize),
     Fault(usize),
+}
+
+// What `parse` answers: so many arrays and functions, in so many words; the text is unreadable, with the place of the fault; a room is too short.
+pub enum Parsed {
+    Tree(usize, usize),
+    Unreadable(usize),
+    NoRoom,
 }
 
 // The levels of operators, document 01 §3, and the most of a level.
@@ -1083,4 +1091,33 @@ fn items(ts: &[u32], n: usize, out: &mut [u32]) -> Got
         left -= 1;
     }
     Got::Fault(i)
+}
+
+// Words of room for a tree: enough for any text.
+pub const TREE_ROOM: usize = 524288;
+
+// The tree of a text: its tokens go to `room`, its words to `tree`; both are working room.
+pub fn parse(text: &[u8], room: &mut [u32], tree: &mut [u32]) -> Parsed
+    ensures { λ r. ⌜ Answers (now (text .entry)) (now (room .entry)) (now (tree .entry)) r (now (tree .exit)) ⌝ }
+{
+    if tree.len() < TREE_ROOM {
+        return Parsed::NoRoom;
+    }
+    let t = tokens::tokens(text, room);
+    match t {
+        tokens::Outcome::Read(n) => {
+            let r = items(room, n, tree);
+            match r {
+                Got::Done(_, e, c) => Parsed::Tree(c, e),
+                Got::Fault(p) => {
+                    if p < n {
+                        return Parsed::Unreadable(field(room, n, p, 1) as usize);
+                    }
+                    Parsed::Unreadable(text.len())
+                }
+            }
+        }
+        tokens::Outcome::Refused(p) => Parsed::Unreadable(p),
+        tokens::Outcome::NoRoom => Parsed::NoRoom,
+    }
 }
