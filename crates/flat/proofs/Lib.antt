@@ -1,0 +1,5 @@
+pub mod Bind
+pub mod Scan
+pub mod Same
+pub mod Decode
+pub mod Run

@@ -1,0 +1,4 @@
+pub mod Lists
+pub mod Operate
+pub mod Moving
+pub mod Changing
