@@ -1,0 +1,3 @@
+pub mod Parse
+pub mod Flat
+pub mod Told
