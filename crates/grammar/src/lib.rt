@@ -15,17 +15,98 @@ pub enum Got {
 
 // The levels of operators, document 01 §3, and the most of a level.
 const COMP_LEVEL: u32 = 3;
+
 const MANY: usize = 65536;
 
 // By a token's kind: its level as an operator, 0 for none; its item's kind; its number. A row of the operators' table is an entry of each.
 const LEVELS: [u32; 27] = [
-    0, 0, 0, 3, 3, 3, 3, 2, 1, 4, 4, 5, 5, 5, 3, 3, 0, 0, 0, 0, 0, 0, 0, 0, 0, 0, 0,
+    0,
+    0,
+    0,
+    3,
+    3,
+    3,
+    3,
+    2,
+    1,
+    4,
+    4,
+    5,
+    5,
+    5,
+    3,
+    3,
+    0,
+    0,
+    0,
+    0,
+    0,
+    0,
+    0,
+    0,
+    0,
+    0,
+    0,
 ];
+
 const ITEM_KINDS: [u32; 27] = [
-    7, 7, 7, 5, 5, 5, 5, 6, 7, 5, 5, 5, 5, 5, 5, 5, 7, 7, 7, 7, 7, 7, 7, 7, 7, 7, 7,
+    7,
+    7,
+    7,
+    5,
+    5,
+    5,
+    5,
+    6,
+    7,
+    5,
+    5,
+    5,
+    5,
+    5,
+    5,
+    5,
+    7,
+    7,
+    7,
+    7,
+    7,
+    7,
+    7,
+    7,
+    7,
+    7,
+    7,
 ];
+
 const ITEM_NUMBERS: [u32; 27] = [
-    0, 0, 0, 0, 1, 3, 5, 0, 0, 6, 7, 8, 9, 10, 2, 4, 0, 0, 0, 0, 0, 0, 0, 0, 0, 0, 0,
+    0,
+    0,
+    0,
+    0,
+    1,
+    3,
+    5,
+    0,
+    0,
+    6,
+    7,
+    8,
+    9,
+    10,
+    2,
+    4,
+    0,
+    0,
+    0,
+    0,
+    0,
+    0,
+    0,
+    0,
+    0,
+    0,
+    0,
 ];
 
 // Word k of token i: its kind, its place, its value; 0 past the last.
@@ -33,7 +114,11 @@ fn field(ts: &[u32], n: usize, i: usize, k: usize) -> u32
     requires { ⌜ (3 * n ≤ length (now ts)) × (n ≤ 65536) × (k < 3) ⌝ }
     ensures { λ r. ⌜ (r ≡ fieldOf (now (ts .entry)) n i k) × (0 < r → i < n) ⌝ }
 {
-    if i < n { ts[tokens::TOKEN_WORDS * i + k] } else { 0 }
+    if i < n {
+        ts[tokens::TOKEN_WORDS * i + k]
+    } else {
+        0
+    }
 }
 
 // The level of a kind of token as an operator; 0 for none.

@@ -1,1 +1,5 @@
 pub mod Looking
+pub mod Kept
+pub mod Sizes
+pub mod Coding
+pub mod Expressions

@@ -10,7 +10,7 @@ use Rattle.word.specs.Choice.{pick, both}
 use Rattle.language.specs.Tree.{Ty, int, bool}
 use Rattle.language.specs.Core.{Array}
 use Rattle.language.specs.Rules.{Ruled, keeps, breaks, _>>=_, found, Global, Local, Signature, globalOf, localOf, isArray, isFunction, andThen, sameTy}
-use Rattle.rules.specs.Tables.{word, part, typeOf, sameTypes}
+use Rattle.rules.specs.Tables.{word, part, sameTypes}
 
 pub record Operand : Type 0 where
   pub type : Ty
@@ -67,7 +67,7 @@ elementNode text globals p a o =
 
 -- negation takes and gives an int, `!` a bool
 unfoldable pub unaryNode : ℕ → Operand → Option Node
-unaryNode a o = sole (sameTy (typeOf (a + 1)) (o .type)) (record { takes = 1; type = o .type; start = o .start; begins = 1; kind = 4; a = a; b = 0 })
+unaryNode a o = sole (sameTy (pick (eqb a 0) int bool) (o .type)) (record { takes = 1; type = pick (eqb a 0) int bool; start = o .start; begins = 1; kind = 4; a = a; b = 0 })
 
 -- `==` and `!=`, below 2, take two of one type; those below 6 give a bool
 unfoldable pub strictNode : ℕ → Operand → Operand → Option Node
@@ -96,6 +96,17 @@ unfoldable pub calledNode : List ℕ → List Global → ℕ → ℕ → ℕ →
 calledNode text globals p a n here os =
     andThen (globalOf globals (part text p a)) (λ g. andThen (isFunction (g .thing)) (λ s. andThen (s .result) (λ t. callNode s n here 1 t os)))
 
+-- so many more nodes begin at the item that starts here
+unfoldable pub charged : ℕ → ℕ → List ℕ → List ℕ
+charged n start ws = set ws (start + 1) ((word ws (start + 1) + n) % 2 ^ 32)
+
+unfoldable pub added : Node → Scanned → Scanned
+added n s =
+    record {
+      operands = record { type = n .type; start = n .start } ∷ drop (n .takes) (s .operands);
+      words = charged (n .begins) (n .start) (s .words ++ (n .kind ∷ 0 ∷ n .a ∷ n .b ∷ []));
+    }
+
 module _ (text : List ℕ) (globals : List Global) (locals : List Local) where
   -- by the item's kind's number: p is its place, here where the new item goes
   abbrev pub nodes : ℕ → ℕ → ℕ → ℕ → List Operand → List (Option Node)
@@ -114,17 +125,6 @@ module _ (text : List ℕ) (globals : List Global) (locals : List Local) where
 
   unfoldable pub nodeOf : ℕ → ℕ → ℕ → ℕ → ℕ → List Operand → Option Node
   nodeOf k p a b here os = getD (nodes p a b here os) k none
-
-  -- so many more nodes begin at the item that starts here
-  unfoldable pub charged : ℕ → ℕ → List ℕ → List ℕ
-  charged n start ws = set ws (start + 1) ((word ws (start + 1) + n) % 2 ^ 32)
-
-  unfoldable pub added : Node → Scanned → Scanned
-  added n s =
-      record {
-        operands = record { type = n .type; start = n .start } ∷ drop (n .takes) (s .operands);
-        words = charged (n .begins) (n .start) (s .words ++ (n .kind ∷ 0 ∷ n .a ∷ n .b ∷ []));
-      }
 
   -- n items. Words that end before are no tree's.
   unfoldable pub scan : ℕ → List ℕ → Scanned → Ruled Scanned

@@ -8,18 +8,25 @@ ghost use Rattle.rules.specs.Post.{FindsLocal, FindsGlobal, most-entries
 
 // Words of a local's entry, and which is what.
 pub const LOCAL_WORDS: usize = 4;
+
 pub const LOCAL_PLACE: usize = 0;
+
 pub const LOCAL_LENGTH: usize = 1;
+
 pub const LOCAL_TYPE: usize = 2;
+
 pub const LOCAL_SLOT: usize = 3;
 
 // Words of a global's entry: its header's place in the tree, its array's offset or its function's number.
 pub const GLOBAL_WORDS: usize = 2;
+
 pub const GLOBAL_HEADER: usize = 0;
+
 pub const GLOBAL_VALUE: usize = 1;
 
 // Words of a header in the tree: its name's place and length.
 pub const NAME_PLACE: usize = 1;
+
 pub const NAME_LENGTH: usize = 2;
 
 // Byte p of the text; 0 past its end.
@@ -74,7 +81,14 @@ pub fn find_local(text: &[u8], locals: &[u32], count: usize, a: u32, n: u32) -> 
 }
 
 // The entry of the global whose name is the n bytes from a on, counted from 1; 0 where there is none.
-pub fn find_global(text: &[u8], tree: &[u32], globals: &[u32], count: usize, a: u32, n: u32) -> usize
+pub fn find_global(
+    text: &[u8],
+    tree: &[u32],
+    globals: &[u32],
+    count: usize,
+    a: u32,
+    n: u32,
+) -> usize
     requires { ⌜ count ≤ most-entries ⌝ }
     ensures { λ r. ⌜ FindsGlobal (now (text .entry)) (now (tree .entry)) (now (globals .entry)) count (part (now (text .entry)) a n) r ⌝ }
 {

@@ -7,6 +7,7 @@ ghost use Rattle.rules.specs.Post.{most-places};
 use crate::names::word;
 
 pub const INT: u32 = 1;
+
 pub const BOOL: u32 = 2;
 
 // Whether two types are the same.
