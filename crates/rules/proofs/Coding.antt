@@ -1,11 +1,12 @@
 -- Items written one after the other are the items of the expression, and a charge added at its first item is a node that begins there.
 use mathlib.Core.Path.{_≡_, refl, sym, ap, _∙_}
 use mathlib.Core.List.{List, [], _∷_, _++_, append-assoc, append-nil}
-use Prim.Native.Nat.{ℕ, zero, suc, _+_, _<_, _≤_, _%_, _^_}
+use Prim.Native.Nat.{ℕ, zero, suc, _+_, _<_, _≤_, _^_}
 use native.Mathlib.Omega.{arith}
 use native.Mathlib.Nat.{suc-add, zero-add}
 use lib.ListN.{length, getD, set}
 use lib.Seq.{getD-append-add}
+use Rattle.word.specs.Word.{addW}
 use Rattle.language.specs.Core as C
 use Rattle.flat.specs.Items.{Item, item, Kind, number, local, element, call, unary, strict, and, or, join, unknown, size, sizes, code, codes}
 use Rattle.flat.specs.Words.{kindWords, itemsWords}
@@ -52,7 +53,8 @@ set-add : (xs ys : List ℕ) (n a : ℕ) → set (xs ++ ys) (length xs + n) a �
 set-add [] ys n a = ap (λ (j : ℕ). set ys j a) (zero-add n)
 set-add (x ∷ xs) ys n a = ap (λ (j : ℕ). set (x ∷ (xs ++ ys)) j a) (suc-add (length xs) n) ∙ ap (λ (l : List ℕ). x ∷ l) (set-add xs ys n a)
 
-small : (c n : ℕ) → c + n < 2 ^ 32 → (c + n) % 2 ^ 32 ≡ c + n
+small : (c n : ℕ) → c + n < 2 ^ 32 → addW c n ≡ c + n
+unfolding addW
 small c n h = omega (arith, h)
 
 -- the charge of the item after ws

@@ -3,3 +3,5 @@ pub mod Kept
 pub mod Sizes
 pub mod Coding
 pub mod Expressions
+pub mod Stacks
+pub mod Making

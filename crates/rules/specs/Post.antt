@@ -1,11 +1,16 @@
 -- What the functions promise: each is the definition of document 01 §4 of what the words stand for.
 use mathlib.Core.Path.{_≡_}
-use mathlib.Core.List.{List}
+use mathlib.Core.Bool.{Bool}
+use mathlib.Core.List.{List, [], _∷_, _++_}
 use mathlib.Core.Option.{Option, none, some}
-use Prim.Native.Nat.{ℕ, zero, suc, _≤_}
+use Prim.Native.Nat.{ℕ, zero, suc, _+_, _≤_}
+use lib.ListN.{length, getD, drop}
+use lib.Seq.{sets}
+use Rattle.word.specs.Choice.{pick}
 use Rattle.language.specs.Tree.{Name}
 use Rattle.language.specs.Rules.{Global, Local, globalOf, localOf}
-use Rattle.rules.specs.Tables.{localAt, localsIn, globalAt, globalsIn}
+use Rattle.rules.specs.Tables.{word, typeOf, localAt, localsIn, globalAt, globalsIn}
+use Rattle.rules.specs.Scan.{Operand, no-operand, Node, charged}
 
 -- more than any table has; more than any place
 abbrev pub most-entries : ℕ
@@ -30,3 +35,26 @@ globalEntry text tree ws (suc i) = some (globalAt text tree ws i)
 pub record FindsGlobal (text tree ws : List ℕ) (count : ℕ) (x : Name) (r : ℕ) : Type 0 where
   pub is : globalOf (globalsIn text tree ws count) x ≡ globalEntry text tree ws r
   pub among : r ≤ count
+
+-- h operands in two rows, the uppermost first
+unfoldable pub operandsIn : List ℕ → List ℕ → ℕ → List Operand
+operandsIn types starts zero = []
+operandsIn types starts (suc h) = record { type = typeOf (word types h); start = word starts h } ∷ operandsIn types starts h
+
+-- the operand below the j uppermost
+pub record Tops (types starts : List ℕ) (h j ty start : ℕ) : Type 0 where
+  pub is : getD (operandsIn types starts h) j no-operand ≡ record { type = typeOf ty; start = start }
+
+-- an operand in the place of the n uppermost
+pub record Pushes (types starts : List ℕ) (h n ty start h′ : ℕ) (types′ starts′ : List ℕ) : Type 0 where
+  pub is : operandsIn types′ starts′ h′ ≡ record { type = typeOf ty; start = start } ∷ drop n (operandsIn types starts h)
+  pub most : h′ ≤ h + 1
+
+-- n nodes more begin at the item at start, of those that were written from q on
+pub record Charges (core : List ℕ) (q size start n : ℕ) (core′ : List ℕ) : Type 0 where
+  pub is : (core₀ ws : List ℕ) → core ≡ sets core₀ q ws → length ws ≡ size → core′ ≡ sets core₀ q (charged n start ws)
+
+-- what is made of an item, if it keeps the rules
+unfoldable pub made : Bool → ℕ → ℕ → ℕ → ℕ → ℕ → ℕ → ℕ → Option Node
+made ok takes ty start begins kind a b =
+    pick ok (some (record { takes = takes; type = typeOf ty; start = start; begins = begins; kind = kind; a = a; b = b })) none

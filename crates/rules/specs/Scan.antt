@@ -3,10 +3,11 @@
 use mathlib.Core.Bool.{Bool, true, false}
 use mathlib.Core.List.{List, [], _∷_, _++_}
 use mathlib.Core.Option.{Option, none, some}
-use Prim.Native.Nat.{ℕ, zero, suc, _+_, _-_, _%_, _^_}
+use Prim.Native.Nat.{ℕ, zero, suc, _+_, _-_}
 use lib.Dec.{eqb, ltb, leb}
 use lib.ListN.{length, getD, drop, set}
 use Rattle.word.specs.Choice.{pick, both}
+use Rattle.word.specs.Word.{addW}
 use Rattle.language.specs.Tree.{Ty, int, bool}
 use Rattle.language.specs.Core.{Array}
 use Rattle.language.specs.Rules.{Ruled, keeps, breaks, _>>=_, found, Global, Local, Signature, globalOf, localOf, isArray, isFunction, andThen, sameTy}
@@ -98,7 +99,7 @@ calledNode text globals p a n here os =
 
 -- so many more nodes begin at the item that starts here
 unfoldable pub charged : ℕ → ℕ → List ℕ → List ℕ
-charged n start ws = set ws (start + 1) ((word ws (start + 1) + n) % 2 ^ 32)
+charged n start ws = set ws (start + 1) (addW (word ws (start + 1)) n)
 
 unfoldable pub added : Node → Scanned → Scanned
 added n s =
