@@ -5,3 +5,4 @@ pub mod Coding
 pub mod Expressions
 pub mod Stacks
 pub mod Making
+pub mod Scanning

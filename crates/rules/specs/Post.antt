@@ -3,14 +3,16 @@ use mathlib.Core.Path.{_≡_}
 use mathlib.Core.Bool.{Bool}
 use mathlib.Core.List.{List, [], _∷_, _++_}
 use mathlib.Core.Option.{Option, none, some}
-use Prim.Native.Nat.{ℕ, zero, suc, _+_, _≤_}
+use Prim.Native.Nat.{ℕ, zero, suc, _+_, _*_, _≤_}
 use lib.ListN.{length, getD, drop}
 use lib.Seq.{sets}
 use Rattle.word.specs.Choice.{pick}
 use Rattle.language.specs.Tree.{Name}
-use Rattle.language.specs.Rules.{Global, Local, globalOf, localOf}
+use Rattle.language.specs.Rules.{keeps, breaks, Global, Local, globalOf, localOf}
 use Rattle.rules.specs.Tables.{word, typeOf, localAt, localsIn, globalAt, globalsIn}
-use Rattle.rules.specs.Scan.{Operand, no-operand, Node, charged}
+use Rattle.rules.specs.Scan.{Operand, no-operand, Node, Scanned, charged, scan}
+use Rattle.rules.specs.declared.Out.{Out}
+use Rattle.rules.specs.declared.Out.the-variants.{Done, Broken}
 
 -- more than any table has; more than any place
 abbrev pub most-entries : ℕ
@@ -58,3 +60,37 @@ pub record Charges (core : List ℕ) (q size start n : ℕ) (core′ : List ℕ)
 unfoldable pub made : Bool → ℕ → ℕ → ℕ → ℕ → ℕ → ℕ → ℕ → Option Node
 made ok takes ty start begins kind a b =
     pick ok (some (record { takes = takes; type = typeOf ty; start = start; begins = begins; kind = kind; a = a; b = b })) none
+
+-- The room that is lent: an operand for each item of the tree, and as many words for the core from q on as the tree has from p on.
+
+abbrev pub most-words : ℕ
+most-words = 67108864
+
+pub record Room (tree : List ℕ) (g l : ℕ) (types starts core : List ℕ) (p q : ℕ) : Type 0 where
+  pub globals : g ≤ most-entries
+  pub locals : l ≤ most-entries
+  pub words : length tree ≤ most-words
+  pub place : p ≤ most-places
+  pub for-types : length tree ≤ 4 * length types
+  pub for-starts : length tree ≤ 4 * length starts
+  pub for-core : q + length tree ≤ p + length core
+  pub core-place : q ≤ most-places
+
+-- Expressions: n items at ws
+
+abbrev pub nothing-scanned : Scanned
+nothing-scanned = record { operands = []; words = [] }
+
+pub record Wrote (text : List ℕ) (globals : List Global) (locals : List Local) (n : ℕ) (ws : List ℕ) (q : ℕ) (core : List ℕ) (h : ℕ) (types′ starts′ core′ : List ℕ) : Type 0 where
+  pub words : List ℕ
+  pub is : scan text globals locals n ws nothing-scanned ≡ keeps (record { operands = operandsIn types′ starts′ h; words = words })
+  pub there : core′ ≡ sets core q words
+  pub size : length words ≡ 4 * n
+  pub few : h ≤ n
+
+abbrev pub ScanCase : List ℕ → List Global → List Local → ℕ → List ℕ → ℕ → List ℕ → Out → List ℕ → List ℕ → List ℕ → Type 0
+ScanCase text globals locals n ws q core (Done h) types′ starts′ core′ = Wrote text globals locals n ws q core h types′ starts′ core′
+ScanCase text globals locals n ws q core (Broken at) types′ starts′ core′ = scan text globals locals n ws nothing-scanned ≡ breaks at
+
+pub record Scans (text : List ℕ) (globals : List Global) (locals : List Local) (n : ℕ) (ws : List ℕ) (q : ℕ) (core : List ℕ) (r : Out) (types′ starts′ core′ : List ℕ) : Type 0 where
+  pub by : ScanCase text globals locals n ws q core r types′ starts′ core′
