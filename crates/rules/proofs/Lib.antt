@@ -6,3 +6,5 @@ pub mod Expressions
 pub mod Stacks
 pub mod Making
 pub mod Scanning
+pub mod Elaborating
+pub mod Lengths

@@ -8,9 +8,16 @@ use lib.ListN.{length, getD, drop}
 use lib.Seq.{sets}
 use Rattle.word.specs.Choice.{pick}
 use Rattle.language.specs.Tree.{Name}
-use Rattle.language.specs.Rules.{keeps, breaks, Global, Local, globalOf, localOf}
+use Rattle.language.specs.Tree as T
+use Rattle.language.specs.Rules.{Ruled, keeps, breaks, Global, Local, Typed, globalOf, localOf, expr}
+use Rattle.grammar.specs.Flat as G
+use Rattle.flat.specs.Items.{code}
+use Rattle.flat.specs.Words.{itemsWords}
 use Rattle.rules.specs.Tables.{word, typeOf, localAt, localsIn, globalAt, globalsIn}
 use Rattle.rules.specs.Scan.{Operand, no-operand, Node, Scanned, charged, scan}
+use Rattle.rules.specs.Named.{NamedExpr}
+use Rattle.rules.specs.declared.Given.{Given}
+use Rattle.rules.specs.declared.Given.the-variants as Is
 use Rattle.rules.specs.declared.Out.{Out}
 use Rattle.rules.specs.declared.Out.the-variants.{Done, Broken}
 
@@ -94,3 +101,18 @@ ScanCase text globals locals n ws q core (Broken at) types′ starts′ core′ 
 
 pub record Scans (text : List ℕ) (globals : List Global) (locals : List Local) (n : ℕ) (ws : List ℕ) (q : ℕ) (core : List ℕ) (r : Out) (types′ starts′ core′ : List ℕ) : Type 0 where
   pub by : ScanCase text globals locals n ws q core r types′ starts′ core′
+
+-- what elaboration gives: an expression of the core, of this type, written from q on
+pub record Typed-as (m : Ruled Typed) (q : ℕ) (core : List ℕ) (ty : ℕ) (core′ : List ℕ) : Type 0 where
+  pub value : Typed
+  pub is : m ≡ keeps value
+  pub type : value .type ≡ typeOf ty
+  pub there : core′ ≡ sets core q (itemsWords (code (value .expr) 0 []) [])
+
+abbrev pub ExprCase : Ruled Typed → ℕ → List ℕ → Given → List ℕ → Type 0
+ExprCase m q core (Is.Type ty) core′ = Typed-as m q core ty core′
+ExprCase m q core (Is.Broken at) core′ = m ≡ breaks at
+
+-- n items at ws are whatever expression has them
+pub record Elaborates (text : List ℕ) (globals : List Global) (locals : List Local) (n : ℕ) (ws : List ℕ) (q : ℕ) (core : List ℕ) (r : Given) (core′ : List ℕ) : Type 0 where
+  pub by : (e : T.Expr) (more : List ℕ) → ws ≡ G.exprWords e more → n ≡ G.size e → NamedExpr text e → ExprCase (expr globals locals e) q core r core′

@@ -5,9 +5,16 @@ pub mod operands; // the stack of operands: a type and a start each
 pub mod nodes; // what an item of the tree becomes
 pub mod calls; // calls and their arguments
 pub mod scan; // an expression, item by item
+pub mod expression; // an expression, and its type
 
 // What a part of the tree gives: a number, or the place of a broken rule.
 pub enum Out {
     Done(usize),
+    Broken(u32),
+}
+
+// What an expression gives: its type, or the place of a broken rule.
+pub enum Given {
+    Type(u32),
     Broken(u32),
 }
