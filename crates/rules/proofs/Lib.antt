@@ -8,3 +8,4 @@ pub mod Making
 pub mod Scanning
 pub mod Elaborating
 pub mod Lengths
+pub mod Stating

@@ -17,7 +17,7 @@ use Rattle.rules.specs.Scan.{Operand, no-operand, Node, sole, leaf, name
 use Rattle.rules.specs.Post.{localEntry, FindsLocal, globalEntry, FindsGlobal, operandsIn, Tops}
 
 -- entry r, where there is one
-entry-local : (text ws : List ℕ) (r : ℕ) → (r ≡ 0 → ⊥) → localEntry text ws r ≡ some (localAt text ws (r - 1))
+pub entry-local : (text ws : List ℕ) (r : ℕ) → (r ≡ 0 → ⊥) → localEntry text ws r ≡ some (localAt text ws (r - 1))
 unfolding localEntry
 entry-local text ws zero h = absurd (h refl)
 entry-local text ws (suc i) h = ap (λ (j : ℕ). some (localAt text ws j)) {x = i} {y = suc i - 1} (omega arith)

@@ -8,16 +8,21 @@ use lib.ListN.{length, getD, drop}
 use lib.Seq.{sets}
 use Rattle.word.specs.Choice.{pick}
 use Rattle.language.specs.Tree.{Name}
+use Rattle.language.specs.Tree.{Ty}
 use Rattle.language.specs.Tree as T
-use Rattle.language.specs.Rules.{Ruled, keeps, breaks, Global, Local, Typed, globalOf, localOf, expr}
+use Rattle.language.specs.Core as C
+use Rattle.language.specs.Rules.{Ruled, keeps, breaks, Global, Local, Typed, Scope, globalOf, localOf, expr, stmt}
 use Rattle.grammar.specs.Flat as G
 use Rattle.flat.specs.Items.{code}
-use Rattle.flat.specs.Words.{itemsWords}
+use Rattle.flat.specs.Statements.{flat}
+use Rattle.flat.specs.Words.{itemsWords, stmtWords, restLength}
 use Rattle.rules.specs.Tables.{word, typeOf, localAt, localsIn, globalAt, globalsIn}
 use Rattle.rules.specs.Scan.{Operand, no-operand, Node, Scanned, charged, scan}
 use Rattle.rules.specs.Named.{NamedExpr}
 use Rattle.rules.specs.declared.Given.{Given}
 use Rattle.rules.specs.declared.Given.the-variants as Is
+use Rattle.rules.specs.declared.Step.{Step}
+use Rattle.rules.specs.declared.Step.the-variants as To
 use Rattle.rules.specs.declared.Out.{Out}
 use Rattle.rules.specs.declared.Out.the-variants.{Done, Broken}
 
@@ -116,3 +121,28 @@ ExprCase m q core (Is.Broken at) core′ = m ≡ breaks at
 -- n items at ws are whatever expression has them
 pub record Elaborates (text : List ℕ) (globals : List Global) (locals : List Local) (n : ℕ) (ws : List ℕ) (q : ℕ) (core : List ℕ) (r : Given) (core′ : List ℕ) : Type 0 where
   pub by : (e : T.Expr) (more : List ℕ) → ws ≡ G.exprWords e more → n ≡ G.size e → NamedExpr text e → ExprCase (expr globals locals e) q core r core′
+
+-- Statements: where they begin, a header stands before their expressions
+
+pub record HeaderRoom (tree : List ℕ) (g l : ℕ) (types starts core : List ℕ) (p q : ℕ) : Type 0 where
+  pub after : Room tree g l types starts core (p + 8) (q + 8)
+  pub header : q + 8 ≤ length core
+
+-- the visible locals in words, and how many parameters and lets there were
+abbrev pub scopeOf : (globals : List Global) → List ℕ → List ℕ → ℕ → ℕ → Scope globals
+scopeOf globals text locals l count = record { visible = localsIn text locals l; count = count }
+
+-- what elaboration gives: a statement of the core, written from q on, and the scope after it
+pub record Stated (globals : List Global) (text : List ℕ) (m : Ruled (C.Stmt × Scope globals)) (q : ℕ) (core : List ℕ) (l count : ℕ) (locals′ core′ : List ℕ) : Type 0 where
+  pub value : C.Stmt
+  pub is : m ≡ keeps (value, scopeOf globals text locals′ l count)
+  pub there : core′ ≡ sets core q (stmtWords (flat value) (restLength (flat value)) [])
+
+abbrev pub StmtCase : (globals : List Global) → List ℕ → Ruled (C.Stmt × Scope globals) → ℕ → List ℕ → Step → List ℕ → List ℕ → Type 0
+StmtCase globals text m q core (To.Next l count) locals′ core′ = Stated globals text m q core l count locals′ core′
+StmtCase globals text m q core (To.Broken at) locals′ core′ = m ≡ breaks at
+
+-- a statement with one expression of n items, in rest words at ws
+pub record States (text : List ℕ) (globals : List Global) (locals : List ℕ) (l count : ℕ) (result : Option Ty) (build : T.Expr → T.Stmt) (n rest : ℕ) (ws : List ℕ) (q : ℕ) (core : List ℕ) (r : Step) (locals′ core′ : List ℕ) : Type 0 where
+  pub by : (e : T.Expr) (more : List ℕ) → ws ≡ G.exprWords e more → n ≡ G.size e → rest ≡ G.exprLength e → NamedExpr text e →
+      StmtCase globals text (stmt globals result (build e) (scopeOf globals text locals l count)) q core r locals′ core′

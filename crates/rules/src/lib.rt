@@ -6,6 +6,7 @@ pub mod nodes; // what an item of the tree becomes
 pub mod calls; // calls and their arguments
 pub mod scan; // an expression, item by item
 pub mod expression; // an expression, and its type
+pub mod single; // statements with one expression and no block
 
 // What a part of the tree gives: a number, or the place of a broken rule.
 pub enum Out {
@@ -16,5 +17,11 @@ pub enum Out {
 // What an expression gives: its type, or the place of a broken rule.
 pub enum Given {
     Type(u32),
+    Broken(u32),
+}
+
+// What a statement gives: how many locals are visible after it, and how many parameters and lets there were; or the place of a broken rule.
+pub enum Step {
+    Next(usize, u32),
     Broken(u32),
 }

@@ -1,0 +1,118 @@
+-- Statements with one expression: what the expression gives, then the statement's own rules, then its header before the items.
+use mathlib.Core.Path.{_≡_, refl, sym, ap, subst, _∙_}
+use mathlib.Core.Bool.{Bool, true, false}
+use mathlib.Core.List.{List, [], _∷_, _++_}
+use mathlib.Core.Option.{Option, none, some}
+use Prim.Native.Nat.{ℕ, zero, suc, _+_, _-_, _*_, _≤_, _<_}
+use native.Mathlib.Omega.{arith}
+use native.Mathlib.Nat.{add-suc, suc-add, add-zero}
+use lib.ListN.{length, set}
+use lib.Seq.{sets, set-comm}
+use borrow.Author.Tests.{eq-eqb, ne-eqb}
+use Rattle.language.specs.Tree.{Place, Ty, int, bool}
+use Rattle.language.specs.Tree as T
+use Rattle.language.specs.Core as C
+use Rattle.language.specs.Rules.{Ruled, keeps, breaks, _>>=_, need, found, sameTy, Global, Local, Scope, Typed, want, gives, localOf, expr, stmt}
+use Rattle.grammar.specs.Flat as G
+use Rattle.flat.specs.Items.{code, size}
+use Rattle.flat.specs.Statements.{flat}
+use Rattle.flat.specs.Words.{itemsWords, stmtWords, restLength}
+use Rattle.rules.specs.Tables.{word, part, typeOf, resultOf, localAt, localsIn}
+use Rattle.rules.specs.Named.{NamedExpr}
+use Rattle.rules.specs.declared.Given.{Given}
+use Rattle.rules.specs.declared.Given.the-variants as Is
+use Rattle.rules.specs.declared.Step.the-variants as To
+use Rattle.rules.specs.Post.{FindsLocal, localEntry, Typed-as, ExprCase, Elaborates, scopeOf, Stated, States}
+use Rattle.rules.proofs.Kept.{All}
+use Rattle.rules.proofs.Sizes.{sized}
+use Rattle.rules.proofs.Lengths.{expr-words, code-length}
+use Rattle.rules.proofs.Making.{entry-local}
+
+-- what is written in the gap that was left before
+set-before : (l : List ℕ) (p q v : ℕ) (c : List ℕ) → q < p → set (sets l p c) q v ≡ sets (set l q v) p c
+set-before l p q v [] h = refl
+set-before l p q v (x ∷ c) h = set-before (set l p x) (suc p) q v c (omega (arith, h)) ∙ ap (λ (w : List ℕ). sets w (suc p) c) (set-comm l p q x v (λ (e : p ≡ q). omega (arith, e, h)))
+
+pub sets-before : (l : List ℕ) (i : ℕ) (h c : List ℕ) → sets (sets l (i + length h) c) i h ≡ sets l i (h ++ c)
+sets-before l i [] c = ap (λ (k : ℕ). sets l k c) (add-zero i)
+sets-before l i (x ∷ h) c =
+    ap (λ (w : List ℕ). sets w (suc i) h) (set-before l (i + suc (length h)) i x c (omega arith))
+    ∙ ap (λ (k : ℕ). sets (sets (set l i x) k c) (suc i) h) (add-suc i (length h) ∙ sym (suc-add i (length h)))
+    ∙ sets-before (set l i x) (suc i) h c
+
+pub went : {A B : Type 0} {m : Ruled A} {a : A} (f : A → Ruled B) {r : Ruled B} → m ≡ keeps a → f a ≡ r → m >>= f ≡ r
+unfolding _>>=_
+went f e h = ap (λ n. n >>= f) e ∙ h
+
+pub stopped : {A B : Type 0} {m : Ruled A} {at : Place} (f : A → Ruled B) → m ≡ breaks at → m >>= f ≡ breaks at
+unfolding _>>=_
+stopped f e = ap (λ n. n >>= f) e
+
+want-fine : (t : Ty) (at : Place) (v : Typed) {u : Ty} {b : Bool} → v .type ≡ u → b ≡ sameTy t u → b ≡ true → want t at v ≡ keeps (v .expr)
+unfolding want need _>>=_
+want-fine t at v e q f = rw (e, ← q, f) refl
+
+want-wrong : (t : Ty) (at : Place) (v : Typed) {u : Ty} {b : Bool} → v .type ≡ u → b ≡ sameTy t u → b ≡ false → want t at v ≡ breaks at
+unfolding want need _>>=_
+want-wrong t at v e q f = rw (e, ← q, f) refl
+
+-- the header's words, before the items
+unfoldable pub headed : ℕ → ℕ → C.Expr → List ℕ
+headed k a v = k ∷ a ∷ 0 ∷ length (code v 0 []) ∷ 0 ∷ 0 ∷ 0 ∷ 4 * length (code v 0 []) ∷ itemsWords (code v 0 []) []
+
+module _ {text : List ℕ} {gs : List Global} {ls : List Local} {n : ℕ} {ws : List ℕ} (q : ℕ) {core : List ℕ} {r : Given} {core₁ : List ℕ} (x : Elaborates text gs ls n ws (q + 8) core r core₁)
+    (e : T.Expr) (more : List ℕ) (ew : ws ≡ G.exprWords e more) (en : n ≡ G.size e) (nm : NamedExpr text e) where
+  pub typed : {ty : ℕ} → r ≡ Is.Type ty → Typed-as (expr gs ls e) (q + 8) core ty core₁
+  typed d = subst (λ (o : Given). ExprCase (expr gs ls e) (q + 8) core o core₁) d (x .by e more ew en nm)
+
+  pub faulty : {at : Place} → r ≡ Is.Broken at → expr gs ls e ≡ breaks at
+  faulty d = subst (λ (o : Given). ExprCase (expr gs ls e) (q + 8) core o core₁) d (x .by e more ew en nm)
+
+  pub with-header : {ty : ℕ} (k a rest : ℕ) {core₂ : List ℕ} (t : Typed-as (expr gs ls e) (q + 8) core ty core₁) → rest ≡ G.exprLength e → core₂ ≡ sets core₁ q (k ∷ a ∷ 0 ∷ n ∷ 0 ∷ 0 ∷ 0 ∷ rest ∷ []) →
+      core₂ ≡ sets core q (headed k a (t .value .expr))
+  unfolding headed
+  with-header k a rest t er y =
+      y ∙ (ap (λ (w : List ℕ). sets w q (k ∷ a ∷ 0 ∷ n ∷ 0 ∷ 0 ∷ 0 ∷ rest ∷ [])) (t .there) ∙ (sets-before core q (k ∷ a ∷ 0 ∷ n ∷ 0 ∷ 0 ∷ 0 ∷ rest ∷ []) (itemsWords (code (t .value .expr) 0 []) []) ∙
+      same (length (code (t .value .expr) 0 [])) (en ∙ sym items) (er ∙ (expr-words e [] ∙ omega (arith, items)))))
+    where
+      items : length (code (t .value .expr) 0 []) ≡ G.size e
+      items = code-length (t .value .expr) 0 [] ∙ (omega (arith) ∙ sized gs ls e .holds (t .value) (t .is) .same)
+
+      same : (m : ℕ) → n ≡ m → rest ≡ 4 * m →
+          sets core q (k ∷ a ∷ 0 ∷ n ∷ 0 ∷ 0 ∷ 0 ∷ rest ∷ itemsWords (code (t .value .expr) 0 []) []) ≡ sets core q (k ∷ a ∷ 0 ∷ m ∷ 0 ∷ 0 ∷ 0 ∷ 4 * m ∷ itemsWords (code (t .value .expr) 0 []) [])
+      same m e f = rw (e, f) refl
+
+int-type : typeOf 1 ≡ int
+unfolding typeOf
+int-type = refl
+
+module _ (text : List ℕ) (gs : List Global) (locals : List ℕ) (l count : ℕ) (result : Option Ty) (at : Place) {n : ℕ} (rest : ℕ) {ws : List ℕ} (q : ℕ) {core : List ℕ} {r : Given} {core₁ : List ℕ}
+    (x : Elaborates text gs (localsIn text locals l) n ws (q + 8) core r core₁) where
+  -- what no statement gets past
+  pub expr-fault : {b : Place} {core₂ : List ℕ} (build : T.Expr → T.Stmt) → ((e : T.Expr) → expr gs (localsIn text locals l) e ≡ breaks b → stmt gs result (build e) (scopeOf gs text locals l count) ≡ breaks b) → r ≡ Is.Broken b →
+      States text gs locals l count result build n rest ws q core (To.Broken b) locals core₂
+  expr-fault build k d = record { by = λ e more ew en er nm. k e (faulty q x e more ew en nm d) }
+
+  module _ {ty : ℕ} {b : Bool} (d : r ≡ Is.Type ty) where
+    emit-at : (e : T.Expr) {core₂ : List ℕ} (t : Typed-as (expr gs (localsIn text locals l) e) (q + 8) core ty core₁) → b ≡ sameTy int (typeOf ty) → b ≡ true → core₂ ≡ sets core q (headed 6 0 (t .value .expr)) →
+        Stated gs text (stmt gs result (T.emit at e) (scopeOf gs text locals l count)) q core l count locals core₂
+    unfolding stmt flat stmtWords restLength headed
+    emit-at e t z f y = record { value = C.emit (t .value .expr); is = went _ (t .is) (went _ (want-fine int at (t .value) (t .type) z f) refl); there = y }
+
+    pub emit-next : {core₂ : List ℕ} → b ≡ sameTy (typeOf 1) (typeOf ty) → b ≡ true → core₂ ≡ sets core₁ q (6 ∷ 0 ∷ 0 ∷ n ∷ 0 ∷ 0 ∷ 0 ∷ rest ∷ []) →
+        States text gs locals l count result (λ e. T.emit at e) n rest ws q core (To.Next l count) locals core₂
+    emit-next z f y = record { by = λ e more ew en er nm. emit-at e (typed q x e more ew en nm d) (z ∙ ap (λ (u : Ty). sameTy u (typeOf ty)) int-type) f (with-header q x e more ew en nm 6 0 rest (typed q x e more ew en nm d) er y) }
+
+    emit-off : (e : T.Expr) → Typed-as (expr gs (localsIn text locals l) e) (q + 8) core ty core₁ → b ≡ sameTy int (typeOf ty) → b ≡ false → stmt gs result (T.emit at e) (scopeOf gs text locals l count) ≡ breaks at
+    unfolding stmt
+    emit-off e t z f = went _ (t .is) (stopped _ (want-wrong int at (t .value) (t .type) z f))
+
+    pub emit-wrong : {core₂ : List ℕ} → b ≡ sameTy (typeOf 1) (typeOf ty) → b ≡ false → States text gs locals l count result (λ e. T.emit at e) n rest ws q core (To.Broken at) locals core₂
+    emit-wrong z f = record { by = λ e more ew en er nm. emit-off e (typed q x e more ew en nm d) (z ∙ ap (λ (u : Ty). sameTy u (typeOf ty)) int-type) f }
+
+  emit-stop : {b : Place} (e : T.Expr) → expr gs (localsIn text locals l) e ≡ breaks b → stmt gs result (T.emit at e) (scopeOf gs text locals l count) ≡ breaks b
+  unfolding stmt
+  emit-stop e f = stopped _ f
+
+  pub emit-fault : {b : Place} {core₂ : List ℕ} → r ≡ Is.Broken b → States text gs locals l count result (λ e. T.emit at e) n rest ws q core (To.Broken b) locals core₂
+  emit-fault d = expr-fault (λ e. T.emit at e) (λ e f. emit-stop e f) d
