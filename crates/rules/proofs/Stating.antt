@@ -116,3 +116,98 @@ module _ (text : List ℕ) (gs : List Global) (locals : List ℕ) (l count : ℕ
 
   pub emit-fault : {b : Place} {core₂ : List ℕ} → r ≡ Is.Broken b → States text gs locals l count result (λ e. T.emit at e) n rest ws q core (To.Broken b) locals core₂
   emit-fault d = expr-fault (λ e. T.emit at e) (λ e f. emit-stop e f) d
+
+  -- Returning a value
+
+  give-stop : {b : Place} (e : T.Expr) → expr gs (localsIn text locals l) e ≡ breaks b → stmt gs result (T.give at e) (scopeOf gs text locals l count) ≡ breaks b
+  unfolding stmt
+  give-stop e f = stopped _ f
+
+  pub give-fault : {b : Place} {core₂ : List ℕ} → r ≡ Is.Broken b → States text gs locals l count result (λ e. T.give at e) n rest ws q core (To.Broken b) locals core₂
+  give-fault d = expr-fault (λ e. T.give at e) (λ e f. give-stop e f) d
+
+  module _ {ty : ℕ} (d : r ≡ Is.Type ty) where
+    give-nothing-at : (e : T.Expr) → Typed-as (expr gs (localsIn text locals l) e) (q + 8) core ty core₁ → result ≡ none → stmt gs result (T.give at e) (scopeOf gs text locals l count) ≡ breaks at
+    unfolding stmt gives
+    give-nothing-at e t z = went _ (t .is) (stopped _ (ap (λ (o : Option Ty). gives gs o at (t .value)) z))
+
+    pub give-nothing : {core₂ : List ℕ} → result ≡ none → States text gs locals l count result (λ e. T.give at e) n rest ws q core (To.Broken at) locals core₂
+    give-nothing z = record { by = λ e more ew en er nm. give-nothing-at e (typed q x e more ew en nm d) z }
+
+    module _ {u : Ty} {b : Bool} (w : result ≡ some u) (z : b ≡ sameTy u (typeOf ty)) where
+      give-at : (e : T.Expr) {core₂ : List ℕ} (t : Typed-as (expr gs (localsIn text locals l) e) (q + 8) core ty core₁) → b ≡ true → core₂ ≡ sets core q (headed 5 0 (t .value .expr)) →
+          Stated gs text (stmt gs result (T.give at e) (scopeOf gs text locals l count)) q core l count locals core₂
+      unfolding stmt gives flat stmtWords restLength headed
+      give-at e t f y = record {
+        value = C.give (t .value .expr);
+        is = went _ (t .is) (went _ (ap (λ (o : Option Ty). gives gs o at (t .value)) w ∙ went _ (want-fine u at (t .value) (t .type) z f) refl) refl);
+        there = y;
+      }
+
+      pub give-next : {core₂ : List ℕ} → b ≡ true → core₂ ≡ sets core₁ q (5 ∷ 0 ∷ 0 ∷ n ∷ 0 ∷ 0 ∷ 0 ∷ rest ∷ []) → States text gs locals l count result (λ e. T.give at e) n rest ws q core (To.Next l count) locals core₂
+      give-next f y = record { by = λ e more ew en er nm. give-at e (typed q x e more ew en nm d) f (with-header q x e more ew en nm 5 0 rest (typed q x e more ew en nm d) er y) }
+
+      give-off : (e : T.Expr) → Typed-as (expr gs (localsIn text locals l) e) (q + 8) core ty core₁ → b ≡ false → stmt gs result (T.give at e) (scopeOf gs text locals l count) ≡ breaks at
+      unfolding stmt gives
+      give-off e t f = went _ (t .is) (stopped _ (ap (λ (o : Option Ty). gives gs o at (t .value)) w ∙ stopped _ (want-wrong u at (t .value) (t .type) z f)))
+
+      pub give-wrong : {core₂ : List ℕ} → b ≡ false → States text gs locals l count result (λ e. T.give at e) n rest ws q core (To.Broken at) locals core₂
+      give-wrong f = record { by = λ e more ew en er nm. give-off e (typed q x e more ew en nm d) f }
+
+  -- Assigning to a visible local
+
+  module _ (size : ℕ) where
+    assign-stop : {b : Place} (e : T.Expr) → expr gs (localsIn text locals l) e ≡ breaks b → stmt gs result (T.assign at (part text at size) e) (scopeOf gs text locals l count) ≡ breaks b
+    unfolding stmt
+    assign-stop e f = stopped _ f
+
+    pub assign-fault : {b : Place} {core₂ : List ℕ} → r ≡ Is.Broken b → States text gs locals l count result (λ e. T.assign at (part text at size) e) n rest ws q core (To.Broken b) locals core₂
+    assign-fault d = expr-fault (λ e. T.assign at (part text at size) e) (λ e f. assign-stop e f) d
+
+    module _ {ty i : ℕ} (d : r ≡ Is.Type ty) (f : FindsLocal text locals l (part text at size) i) where
+      unknown-at : (e : T.Expr) → Typed-as (expr gs (localsIn text locals l) e) (q + 8) core ty core₁ → i ≡ 0 → stmt gs result (T.assign at (part text at size) e) (scopeOf gs text locals l count) ≡ breaks at
+      unfolding stmt found localEntry
+      unknown-at e t z = went _ (t .is) (stopped _ (ap (λ (o : Option Local). found o at) (f .is ∙ ap (localEntry text locals) z)))
+
+      pub assign-unknown : {core₂ : List ℕ} → i ≡ 0 → States text gs locals l count result (λ e. T.assign at (part text at size) e) n rest ws q core (To.Broken at) locals core₂
+      assign-unknown z = record { by = λ e more ew en er nm. unknown-at e (typed q x e more ew en nm d) z }
+
+      module _ {wanted : ℕ} {b : Bool} (z : i ≡ 0 → ⊥) (w : wanted ≡ word locals (4 * (i - 1) + 2)) (y : b ≡ sameTy (typeOf wanted) (typeOf ty)) where
+        the-type : typeOf wanted ≡ localAt text locals (i - 1) .type
+        unfolding localAt
+        the-type = ap typeOf w
+
+        the-local : found (localOf (localsIn text locals l) (part text at size)) at ≡ keeps (localAt text locals (i - 1))
+        unfolding found
+        the-local = ap (λ (o : Option Local). found o at) (f .is ∙ entry-local text locals i z)
+
+        assign-off : (e : T.Expr) → Typed-as (expr gs (localsIn text locals l) e) (q + 8) core ty core₁ → b ≡ false → stmt gs result (T.assign at (part text at size) e) (scopeOf gs text locals l count) ≡ breaks at
+        unfolding stmt
+        assign-off e t k = went _ (t .is) (went _ the-local (stopped _ (want-wrong (localAt text locals (i - 1) .type) at (t .value) (t .type) (y ∙ ap (λ (u : Ty). sameTy u (typeOf ty)) the-type) k)))
+
+        pub assign-wrong : {core₂ : List ℕ} → b ≡ false → States text gs locals l count result (λ e. T.assign at (part text at size) e) n rest ws q core (To.Broken at) locals core₂
+        assign-wrong k = record { by = λ e more ew en er nm. assign-off e (typed q x e more ew en nm d) k }
+
+        assign-at : (e : T.Expr) {core₂ : List ℕ} (t : Typed-as (expr gs (localsIn text locals l) e) (q + 8) core ty core₁) → b ≡ true → core₂ ≡ sets core q (headed 0 (word locals (4 * (i - 1) + 3)) (t .value .expr)) →
+            Stated gs text (stmt gs result (T.assign at (part text at size) e) (scopeOf gs text locals l count)) q core l count locals core₂
+        unfolding stmt flat stmtWords restLength headed localAt
+        assign-at e t k c = record {
+          value = C.put (word locals (4 * (i - 1) + 3)) (t .value .expr);
+          is = went _ (t .is) (went _ the-local (went _ (want-fine (localAt text locals (i - 1) .type) at (t .value) (t .type) (y ∙ ap (λ (u : Ty). sameTy u (typeOf ty)) the-type) k) refl));
+          there = c;
+        }
+
+        pub assign-next : {slot : ℕ} {core₂ : List ℕ} → b ≡ true → slot ≡ word locals (4 * (i - 1) + 3) → core₂ ≡ sets core₁ q (0 ∷ slot ∷ 0 ∷ n ∷ 0 ∷ 0 ∷ 0 ∷ rest ∷ []) →
+            States text gs locals l count result (λ e. T.assign at (part text at size) e) n rest ws q core (To.Next l count) locals core₂
+        assign-next {slot} k s c = record {
+          by = λ e more ew en er nm. assign-at e (typed q x e more ew en nm d) k
+              (with-header q x e more ew en nm 0 slot rest (typed q x e more ew en nm d) er c ∙ ap (λ (j : ℕ). sets core q (headed 0 j (typed q x e more ew en nm d .value .expr))) s);
+        }
+
+pub no-result : (res : ℕ) → res ≡ 0 → resultOf res ≡ none
+unfolding resultOf
+no-result res e = rw e refl
+
+pub some-result : (res : ℕ) → (res ≡ 0 → ⊥) → resultOf res ≡ some (typeOf res)
+unfolding resultOf
+some-result res h = rw (ne-eqb res 0 h) refl

@@ -4,12 +4,17 @@ ghost use mathlib.Core.List.{[], _∷_};
 ghost use Prim.Native.Nat.{_+_, _≤_};
 ghost use lib.ListN.{length, drop};
 ghost use lib.Seq.{sets};
-ghost use Rattle.language.specs.Tree.{emit as emitOf};
-ghost use Rattle.rules.specs.Tables.{resultOf, localsIn, globalsIn};
+ghost use Rattle.language.specs.Tree.{emit as emitOf, give as giveOf, assign as assignOf};
+ghost use Rattle.rules.specs.Tables.{part, resultOf, localsIn, globalsIn};
 ghost use Rattle.rules.specs.Post.{HeaderRoom, States};
 use crate::Given;
 use crate::Step;
 use crate::expression::expression;
+use crate::names::LOCAL_SLOT;
+use crate::names::LOCAL_TYPE;
+use crate::names::LOCAL_WORDS;
+use crate::names::find_local;
+use crate::names::word;
 use crate::types::INT;
 use crate::types::same_type;
 use flat::statement;
@@ -72,6 +77,114 @@ pub fn emit(
                 return Step::Broken(at);
             }
             header(core, q, statement::EMIT, 0, n, rest);
+            Step::Next(l, count)
+        }
+        Given::Broken(b) => Step::Broken(b),
+    }
+}
+
+// "A function with a result type returns that type everywhere. Others only use `return;`."
+pub fn give(
+    text: &[u8],
+    tree: &[u32],
+    globals: &[u32],
+    g: usize,
+    locals: &[u32],
+    l: usize,
+    types: &mut [u32],
+    starts: &mut [u32],
+    core: &mut [u32],
+    p: usize,
+    q: usize,
+    n: u32,
+    rest: u32,
+    at: u32,
+    count: u32,
+    result: u32,
+) -> Step
+    requires { ⌜ HeaderRoom (now tree) g l (now types) (now starts) (now core) p q ⌝ }
+    ensures { λ r. ⌜ States (now (text .entry)) (globalsIn (now (text .entry)) (now (tree .entry)) (now (globals .entry)) g) (now (locals .entry)) l count (resultOf result)
+        (λ e. giveOf at e) n rest (drop (p + 8) (now (tree .entry))) q (now (core .entry)) r (now (locals .exit)) (now (core .exit)) ⌝ }
+{
+    let r = expression(
+        text,
+        tree,
+        globals,
+        g,
+        locals,
+        l,
+        types,
+        starts,
+        core,
+        p + 8,
+        q + 8,
+        n,
+    );
+    match r {
+        Given::Type(ty) => {
+            if result == 0 {
+                return Step::Broken(at);
+            }
+            if !same_type(result, ty) {
+                return Step::Broken(at);
+            }
+            header(core, q, statement::GIVE, 0, n, rest);
+            Step::Next(l, count)
+        }
+        Given::Broken(b) => Step::Broken(b),
+    }
+}
+
+// "assignments keep it": a visible local's type.
+pub fn assign(
+    text: &[u8],
+    tree: &[u32],
+    globals: &[u32],
+    g: usize,
+    locals: &[u32],
+    l: usize,
+    types: &mut [u32],
+    starts: &mut [u32],
+    core: &mut [u32],
+    p: usize,
+    q: usize,
+    n: u32,
+    rest: u32,
+    at: u32,
+    size: u32,
+    count: u32,
+    result: u32,
+) -> Step
+    requires { ⌜ HeaderRoom (now tree) g l (now types) (now starts) (now core) p q ⌝ }
+    ensures { λ r. ⌜ States (now (text .entry)) (globalsIn (now (text .entry)) (now (tree .entry)) (now (globals .entry)) g) (now (locals .entry)) l count (resultOf result)
+        (λ e. assignOf at (part (now (text .entry)) at size) e) n rest (drop (p + 8) (now (tree .entry))) q (now (core .entry)) r (now (locals .exit)) (now (core .exit)) ⌝ }
+{
+    let r = expression(
+        text,
+        tree,
+        globals,
+        g,
+        locals,
+        l,
+        types,
+        starts,
+        core,
+        p + 8,
+        q + 8,
+        n,
+    );
+    match r {
+        Given::Type(ty) => {
+            let i = find_local(text, locals, l, at, size);
+            if i == 0 {
+                return Step::Broken(at);
+            }
+            let wanted = word(locals, LOCAL_WORDS * (i - 1) + LOCAL_TYPE);
+            if !same_type(wanted, ty) {
+                return Step::Broken(at);
+            }
+            let slot = word(locals, LOCAL_WORDS * (i - 1) + LOCAL_SLOT);
+            header(core, q, statement::PUT, slot, n, rest);
             Step::Next(l, count)
         }
         Given::Broken(b) => Step::Broken(b),
