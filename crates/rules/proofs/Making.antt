@@ -22,7 +22,7 @@ unfolding localEntry
 entry-local text ws zero h = absurd (h refl)
 entry-local text ws (suc i) h = ap (λ (j : ℕ). some (localAt text ws j)) {x = i} {y = suc i - 1} (omega arith)
 
-entry-global : (text tree ws : List ℕ) (r : ℕ) → (r ≡ 0 → ⊥) → globalEntry text tree ws r ≡ some (globalAt text tree ws (r - 1))
+pub entry-global : (text tree ws : List ℕ) (r : ℕ) → (r ≡ 0 → ⊥) → globalEntry text tree ws r ≡ some (globalAt text tree ws (r - 1))
 unfolding globalEntry
 entry-global text tree ws zero h = absurd (h refl)
 entry-global text tree ws (suc i) h = ap (λ (j : ℕ). some (globalAt text tree ws j)) {x = i} {y = suc i - 1} (omega arith)

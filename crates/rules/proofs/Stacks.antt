@@ -76,11 +76,11 @@ set-inside l q i zero v (x ∷ c) e h =
     ap (λ (k : ℕ). set (sets (set l q x) (suc q) c) k v) {x = i} {y = q} (omega (arith, e)) ∙ (set-before (set l q x) (suc q) q v c (omega arith) ∙ ap (λ (w : List ℕ). sets w (suc q) c) (set-set l q x v))
 set-inside l q i (suc j) v (x ∷ c) e h = set-inside (set l q x) (suc q) i j v c (omega (arith, e)) (omega (arith, h))
 
-get-before : (l : List ℕ) (p q : ℕ) (c : List ℕ) → q < p → getD (sets l p c) q 0 ≡ getD l q 0
+pub get-before : (l : List ℕ) (p q : ℕ) (c : List ℕ) → q < p → getD (sets l p c) q 0 ≡ getD l q 0
 get-before l p q [] h = refl
 get-before l p q (x ∷ c) h = get-before (set l p x) (suc p) q c (omega (arith, h)) ∙ getD-set-other l p q x 0 (λ (e : q ≡ p). omega (arith, e, h))
 
-get-inside : (l : List ℕ) (q i j : ℕ) (c : List ℕ) → i ≡ q + j → j < length c → q + length c ≤ length l → getD (sets l q c) i 0 ≡ getD c j 0
+pub get-inside : (l : List ℕ) (q i j : ℕ) (c : List ℕ) → i ≡ q + j → j < length c → q + length c ≤ length l → getD (sets l q c) i 0 ≡ getD c j 0
 get-inside l q i j [] e h m = absurd (omega (arith, h))
 get-inside l q i zero (x ∷ c) e h m =
     ap (λ (k : ℕ). getD (sets (set l q x) (suc q) c) k 0) {x = i} {y = q} (omega (arith, e)) ∙ (get-before (set l q x) (suc q) q c (omega arith) ∙ getD-set-same l q x 0 (omega (arith, m)))

@@ -4,29 +4,32 @@ use mathlib.Core.Bool.{Bool, true, false}
 use mathlib.Core.List.{List, [], _∷_, _++_}
 use mathlib.Core.Option.{Option, none, some}
 use Prim.Native.Nat.{ℕ, zero, suc, _+_, _-_, _*_, _≤_, _<_}
+use native.Mathlib.Numerals.{add-one}
 use native.Mathlib.Omega.{arith}
 use native.Mathlib.Nat.{add-suc, suc-add, add-zero}
-use lib.ListN.{length, set}
+use lib.Dec.{eqb, ltb, leb}
+use lib.ListN.{length, getD, set}
 use lib.Seq.{sets, set-comm}
-use borrow.Author.Tests.{eq-eqb, ne-eqb}
+use borrow.Author.Tests.{eq-eqb, ne-eqb, lt-ltb, le-ltb}
 use Rattle.language.specs.Tree.{Place, Ty, int, bool}
 use Rattle.language.specs.Tree as T
 use Rattle.language.specs.Core as C
-use Rattle.language.specs.Rules.{Ruled, keeps, breaks, _>>=_, need, found, sameTy, Global, Local, Scope, Typed, want, gives, localOf, expr, stmt}
+use Rattle.language.specs.Rules.{Ruled, keeps, breaks, _>>=_, need, found, absent, fresh, sameTy, Global, Local, Scope, Typed, want, gives, leaves, localOf, expr, stmt}
 use Rattle.grammar.specs.Flat as G
 use Rattle.flat.specs.Items.{code, size}
 use Rattle.flat.specs.Statements.{flat}
 use Rattle.flat.specs.Words.{itemsWords, stmtWords, restLength}
-use Rattle.rules.specs.Tables.{word, part, typeOf, resultOf, localAt, localsIn}
+use Rattle.rules.specs.Tables.{word, part, typeOf, resultOf, localAt, localsIn, globalsIn}
 use Rattle.rules.specs.Named.{NamedExpr}
 use Rattle.rules.specs.declared.Given.{Given}
 use Rattle.rules.specs.declared.Given.the-variants as Is
 use Rattle.rules.specs.declared.Step.the-variants as To
-use Rattle.rules.specs.Post.{FindsLocal, localEntry, Typed-as, ExprCase, Elaborates, scopeOf, Stated, States}
+use Rattle.rules.specs.Post.{FindsLocal, localEntry, FindsGlobal, globalEntry, Enters, Freshly, Leaves, Typed-as, ExprCase, Elaborates, scopeOf, Stated, States}
 use Rattle.rules.proofs.Kept.{All}
 use Rattle.rules.proofs.Sizes.{sized}
 use Rattle.rules.proofs.Lengths.{expr-words, code-length}
-use Rattle.rules.proofs.Making.{entry-local}
+use Rattle.rules.proofs.Making.{entry-local, entry-global}
+use Rattle.rules.proofs.Stacks.{get-before, get-inside}
 
 -- what is written in the gap that was left before
 set-before : (l : List ℕ) (p q v : ℕ) (c : List ℕ) → q < p → set (sets l p c) q v ≡ sets (set l q v) p c
@@ -211,3 +214,116 @@ no-result res e = rw e refl
 pub some-result : (res : ℕ) → (res ≡ 0 → ⊥) → resultOf res ≡ some (typeOf res)
 unfolding resultOf
 some-result res h = rw (ne-eqb res 0 h) refl
+
+-- Declaring a local
+
+same-locals : (text ws us : List ℕ) (l : ℕ) → ((i : ℕ) → i < 4 * l → getD us i 0 ≡ getD ws i 0) → localsIn text us l ≡ localsIn text ws l
+unfolding localsIn localAt
+same-locals text ws us zero h = refl
+same-locals text ws us (suc l) h =
+    rw (h (4 * l) (omega arith), h (4 * l + 1) (omega arith), h (4 * l + 2) (omega arith), h (4 * l + 3) (omega arith), same-locals text ws us l (λ i k. h i (omega (arith, k)))) refl
+
+entered-at : (text locals : List ℕ) (l at size ty slot : ℕ) → 4 * l + 4 ≤ length locals →
+    localsIn text (sets locals (4 * l) (at ∷ size ∷ ty ∷ slot ∷ [])) (l + 1) ≡ record { name = part text at size; type = typeOf ty; slot = slot } ∷ localsIn text locals l
+unfolding localsIn localAt
+entered-at text locals l at size ty slot h =
+    rw (
+      add-one l,
+      get-inside locals (4 * l) (4 * l) 0 (at ∷ size ∷ ty ∷ slot ∷ []) (omega arith) (omega arith) (omega (arith, h)),
+      get-inside locals (4 * l) (4 * l + 1) 1 (at ∷ size ∷ ty ∷ slot ∷ []) refl (omega arith) (omega (arith, h)),
+      get-inside locals (4 * l) (4 * l + 2) 2 (at ∷ size ∷ ty ∷ slot ∷ []) refl (omega arith) (omega (arith, h)),
+      get-inside locals (4 * l) (4 * l + 3) 3 (at ∷ size ∷ ty ∷ slot ∷ []) refl (omega arith) (omega (arith, h)),
+      same-locals text locals (sets locals (4 * l) (at ∷ size ∷ ty ∷ slot ∷ [])) l (λ i k. get-before locals (4 * l) i (at ∷ size ∷ ty ∷ slot ∷ []) k),
+    ) refl
+
+pub entered : {locals locals′ : List ℕ} (l at size ty slot : ℕ) → 4 * l + 4 ≤ length locals → locals′ ≡ sets locals (4 * l) (at ∷ size ∷ ty ∷ slot ∷ []) → Enters locals l at size ty slot locals′
+entered {locals} l at size ty slot h e = record { is = λ text. ap (λ (w : List ℕ). localsIn text w (l + 1)) e ∙ entered-at text locals l at size ty slot h }
+
+module _ {text tree ws locals : List ℕ} {g l i : ℕ} (at size : ℕ) (f : FindsGlobal text tree ws g (part text at size) i) where
+  pub named-global : (i ≡ 0 → ⊥) → Freshly text (globalsIn text tree ws g) locals l at size false
+  unfolding fresh need _>>=_
+  named-global h = record { is = rw (f .is, entry-global text tree ws i h) refl }
+
+  pub named-local : {j : ℕ} {b : Bool} → i ≡ 0 → FindsLocal text locals l (part text at size) j → b ≡ eqb j 0 → Freshly text (globalsIn text tree ws g) locals l at size b
+  unfolding fresh need _>>=_ globalEntry localEntry
+  named-local {j} {b} h k q = record { is = rw (f .is, h, k .is, q) (go j) }
+    where
+      go : (j : ℕ) → need (absent (localEntry text locals j)) at ≡ need (eqb j 0) at
+      go zero = refl
+      go (suc j) = rw (ne-eqb (suc j) 0 (λ (e : suc j ≡ 0). omega (arith, e))) refl
+
+module _ (text : List ℕ) (gs : List Global) (locals : List ℕ) (l count : ℕ) (result : Option Ty) (at size wanted : ℕ) {n : ℕ} (rest : ℕ) {ws : List ℕ} (q : ℕ) {core : List ℕ} {r : Given} {core₁ : List ℕ}
+    (x : Elaborates text gs (localsIn text locals l) n ws (q + 8) core r core₁) where
+  abbrev let-of : T.Expr → T.Stmt
+  let-of e = T.declare at (part text at size) (typeOf wanted) e
+
+  abbrev stmt-of : T.Expr → Ruled (C.Stmt × Scope gs)
+  stmt-of e = stmt gs result (let-of e) (scopeOf gs text locals l count)
+
+  abbrev expr-of : T.Expr → Ruled Typed
+  expr-of e = expr gs (localsIn text locals l) e
+
+  declare-stop : {b : Place} (e : T.Expr) → expr-of e ≡ breaks b → stmt-of e ≡ breaks b
+  unfolding stmt
+  declare-stop e f = stopped _ f
+
+  pub declare-fault : {b : Place} {locals₂ core₂ : List ℕ} → r ≡ Is.Broken b → States text gs locals l count result (λ e. let-of e) n rest ws q core (To.Broken b) locals₂ core₂
+  declare-fault d = record { by = λ e more ew en er nm. declare-stop e (faulty q x e more ew en nm d) }
+
+  module _ {ty : ℕ} {b : Bool} (d : r ≡ Is.Type ty) (y : b ≡ sameTy (typeOf wanted) (typeOf ty)) where
+    declare-off : (e : T.Expr) → Typed-as (expr-of e) (q + 8) core ty core₁ → b ≡ false → stmt-of e ≡ breaks at
+    unfolding stmt
+    declare-off e t f = went _ (t .is) (stopped _ (want-wrong (typeOf wanted) at (t .value) (t .type) y f))
+
+    pub declare-wrong : {locals₂ core₂ : List ℕ} → b ≡ false → States text gs locals l count result (λ e. let-of e) n rest ws q core (To.Broken at) locals₂ core₂
+    declare-wrong f = record { by = λ e more ew en er nm. declare-off e (typed q x e more ew en nm d) f }
+
+    module _ {c : Bool} (f : b ≡ true) (z : Freshly text gs locals l at size c) where
+      declare-taken : (e : T.Expr) → Typed-as (expr-of e) (q + 8) core ty core₁ → c ≡ false → stmt-of e ≡ breaks at
+      unfolding stmt need
+      declare-taken e t k = went _ (t .is) (went _ (want-fine (typeOf wanted) at (t .value) (t .type) y f) (stopped _ (z .is ∙ ap (λ (v : Bool). need v at) k)))
+
+      pub declare-again : {locals₂ core₂ : List ℕ} → c ≡ false → States text gs locals l count result (λ e. let-of e) n rest ws q core (To.Broken at) locals₂ core₂
+      declare-again k = record { by = λ e more ew en er nm. declare-taken e (typed q x e more ew en nm d) k }
+
+      module _ (k : c ≡ true) where
+        is-fresh : fresh gs (localsIn text locals l) at (part text at size) ≡ keeps tt
+        unfolding need
+        is-fresh = z .is ∙ ap (λ (v : Bool). need v at) k
+
+        declare-full : (e : T.Expr) → Typed-as (expr-of e) (q + 8) core ty core₁ → 64 ≤ count → stmt-of e ≡ breaks at
+        unfolding stmt need
+        declare-full e t m = went _ (t .is) (went _ (want-fine (typeOf wanted) at (t .value) (t .type) y f) (went _ is-fresh (stopped _ (ap (λ (v : Bool). need v at) (le-ltb count 64 m)))))
+
+        pub declare-many : {locals₂ core₂ : List ℕ} → 64 ≤ count → States text gs locals l count result (λ e. let-of e) n rest ws q core (To.Broken at) locals₂ core₂
+        declare-many m = record { by = λ e more ew en er nm. declare-full e (typed q x e more ew en nm d) m }
+
+        declare-at : (e : T.Expr) {locals₂ core₂ : List ℕ} (t : Typed-as (expr-of e) (q + 8) core ty core₁) → count < 64 → Enters locals l at size wanted count locals₂ → core₂ ≡ sets core q (headed 0 count (t .value .expr)) →
+            Stated gs text (stmt-of e) q core (l + 1) (count + 1) locals₂ core₂
+        unfolding stmt need flat stmtWords restLength headed
+        declare-at e {locals₂} t m w c′ = record {
+          value = C.put count (t .value .expr);
+          is = went _ (t .is) (went _ (want-fine (typeOf wanted) at (t .value) (t .type) y f) (went _ is-fresh (went _ (ap (λ (v : Bool). need v at) (lt-ltb count 64 m)) (rw (w .is text, add-one count) refl))));
+          there = c′;
+        }
+
+        pub declare-next : {locals₂ core₂ : List ℕ} → count < 64 → Enters locals l at size wanted count locals₂ → core₂ ≡ sets core₁ q (0 ∷ count ∷ 0 ∷ n ∷ 0 ∷ 0 ∷ 0 ∷ rest ∷ []) →
+            States text gs locals l count result (λ e. let-of e) n rest ws q core (To.Next (l + 1) (count + 1)) locals₂ core₂
+        declare-next m w c′ = record { by = λ e more ew en er nm. declare-at e (typed q x e more ew en nm d) m w (with-header q x e more ew en nm 0 count rest (typed q x e more ew en nm d) er c′) }
+
+-- Returning nothing
+
+leave-at : (l count : ℕ) (result : Option Ty) (at q : ℕ) (core core′ text : List ℕ) (gs : List Global) (locals : List ℕ) → result ≡ none → core′ ≡ sets core q (4 ∷ 0 ∷ 0 ∷ 0 ∷ 0 ∷ 0 ∷ 0 ∷ 0 ∷ []) →
+    Stated gs text (stmt gs result (T.leave at) (scopeOf gs text locals l count)) q core l count locals core′
+unfolding stmt leaves flat stmtWords restLength _>>=_
+leave-at l count result at q core core′ text gs locals e y = record { value = C.leave; is = rw e refl; there = y }
+
+pub leave-next : {core core′ : List ℕ} (l count : ℕ) (result : Option Ty) (at q : ℕ) → result ≡ none → core′ ≡ sets core q (4 ∷ 0 ∷ 0 ∷ 0 ∷ 0 ∷ 0 ∷ 0 ∷ 0 ∷ []) → Leaves l count result at q core (To.Next l count) core′
+leave-next {core} {core′} l count result at q e y = record { by = λ text gs locals. leave-at l count result at q core core′ text gs locals e y }
+
+leave-off : (l count : ℕ) (result : Option Ty) {t : Ty} (at : ℕ) (text : List ℕ) (gs : List Global) (locals : List ℕ) → result ≡ some t → stmt gs result (T.leave at) (scopeOf gs text locals l count) ≡ breaks at
+unfolding stmt leaves _>>=_
+leave-off l count result at text gs locals e = rw e refl
+
+pub leave-wrong : {core core′ : List ℕ} (l count : ℕ) (result : Option Ty) {t : Ty} (at q : ℕ) → result ≡ some t → Leaves l count result at q core (To.Broken at) core′
+leave-wrong l count result at q e = record { by = λ text gs locals. leave-off l count result at text gs locals e }

@@ -11,12 +11,12 @@ use Rattle.language.specs.Tree.{Name}
 use Rattle.language.specs.Tree.{Ty}
 use Rattle.language.specs.Tree as T
 use Rattle.language.specs.Core as C
-use Rattle.language.specs.Rules.{Ruled, keeps, breaks, Global, Local, Typed, Scope, globalOf, localOf, expr, stmt}
+use Rattle.language.specs.Rules.{Ruled, keeps, breaks, Global, Local, Typed, Scope, globalOf, localOf, fresh, need, expr, stmt}
 use Rattle.grammar.specs.Flat as G
 use Rattle.flat.specs.Items.{code}
 use Rattle.flat.specs.Statements.{flat}
 use Rattle.flat.specs.Words.{itemsWords, stmtWords, restLength}
-use Rattle.rules.specs.Tables.{word, typeOf, localAt, localsIn, globalAt, globalsIn}
+use Rattle.rules.specs.Tables.{word, part, typeOf, localAt, localsIn, globalAt, globalsIn}
 use Rattle.rules.specs.Scan.{Operand, no-operand, Node, Scanned, charged, scan}
 use Rattle.rules.specs.Named.{NamedExpr}
 use Rattle.rules.specs.declared.Given.{Given}
@@ -146,3 +146,15 @@ StmtCase globals text m q core (To.Broken at) locals′ core′ = m ≡ breaks a
 pub record States (text : List ℕ) (globals : List Global) (locals : List ℕ) (l count : ℕ) (result : Option Ty) (build : T.Expr → T.Stmt) (n rest : ℕ) (ws : List ℕ) (q : ℕ) (core : List ℕ) (r : Step) (locals′ core′ : List ℕ) : Type 0 where
   pub by : (e : T.Expr) (more : List ℕ) → ws ≡ G.exprWords e more → n ≡ G.size e → rest ≡ G.exprLength e → NamedExpr text e →
       StmtCase globals text (stmt globals result (build e) (scopeOf globals text locals l count)) q core r locals′ core′
+
+-- a local more is visible
+pub record Enters (locals : List ℕ) (l at size ty slot : ℕ) (locals′ : List ℕ) : Type 0 where
+  pub is : (text : List ℕ) → localsIn text locals′ (l + 1) ≡ record { name = part text at size; type = typeOf ty; slot = slot } ∷ localsIn text locals l
+
+-- whether a name is new
+pub record Freshly (text : List ℕ) (globals : List Global) (locals : List ℕ) (l at size : ℕ) (r : Bool) : Type 0 where
+  pub is : fresh globals (localsIn text locals l) at (part text at size) ≡ need r at
+
+-- `return;`, whatever is visible
+pub record Leaves (l count : ℕ) (result : Option Ty) (at q : ℕ) (core : List ℕ) (r : Step) (core′ : List ℕ) : Type 0 where
+  pub by : (text : List ℕ) (globals : List Global) (locals : List ℕ) → StmtCase globals text (stmt globals result (T.leave at) (scopeOf globals text locals l count)) q core r locals core′
