@@ -1,0 +1,11 @@
+pub mod Looking
+pub mod Kept
+pub mod Sizes
+pub mod Coding
+pub mod Expressions
+pub mod Stacks
+pub mod Making
+pub mod Scanning
+pub mod Elaborating
+pub mod Lengths
+pub mod Stating

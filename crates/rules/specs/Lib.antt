@@ -1,0 +1,4 @@
+pub mod Tables
+pub mod Named
+pub mod Scan
+pub mod Post

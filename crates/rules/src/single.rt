@@ -1,0 +1,300 @@
+// Statements with one expression and no block: the expression first, then the statement's own rules, then its header.
+ghost use mathlib.Core.Path.{_≡_};
+ghost use mathlib.Core.List.{[], _∷_};
+ghost use Prim.Native.Nat.{_+_, _*_, _≤_};
+ghost use lib.ListN.{length, drop};
+ghost use lib.Seq.{sets};
+ghost use Rattle.language.specs.Tree.{emit as emitOf, give as giveOf, assign as assignOf, declare as declareOf};
+ghost use Rattle.rules.specs.Tables.{part, typeOf, resultOf, localsIn, globalsIn};
+ghost use Rattle.rules.specs.Post.{most-entries, HeaderRoom, States, Leaves, Enters, Freshly};
+use crate::Given;
+use crate::Step;
+use crate::expression::expression;
+use crate::names::LOCAL_SLOT;
+use crate::names::LOCAL_TYPE;
+use crate::names::LOCAL_WORDS;
+use crate::names::find_global;
+use crate::names::find_local;
+use crate::names::word;
+use crate::types::INT;
+use crate::types::same_type;
+use flat::statement;
+
+// "64 parameters and lets together per function"
+const MOST_LOCALS: u32 = 64;
+
+// The header of a statement with one expression: its kind, a word that the kind has a use for, how many items, how many words follow.
+pub fn header(core: &mut [u32], q: usize, k: u32, a: u32, n: u32, rest: u32)
+    requires { ⌜ q + 8 ≤ length (now core) ⌝ }
+    ensures { λ _. ⌜ now (core .exit) ≡ sets (now (core .entry)) q (k ∷ a ∷ 0 ∷ n ∷ 0 ∷ 0 ∷ 0 ∷ rest ∷ []) ⌝ }
+{
+    core[q] = k;
+    core[q + 1] = a;
+    core[q + 2] = 0;
+    core[q + 3] = n;
+    core[q + 4] = 0;
+    core[q + 5] = 0;
+    core[q + 6] = 0;
+    core[q + 7] = rest;
+}
+
+// "`emit` takes an int."
+pub fn emit(
+    text: &[u8],
+    tree: &[u32],
+    globals: &[u32],
+    g: usize,
+    locals: &[u32],
+    l: usize,
+    types: &mut [u32],
+    starts: &mut [u32],
+    core: &mut [u32],
+    p: usize,
+    q: usize,
+    n: u32,
+    rest: u32,
+    at: u32,
+    count: u32,
+    result: u32,
+) -> Step
+    requires { ⌜ HeaderRoom (now tree) g l (now types) (now starts) (now core) p q ⌝ }
+    ensures { λ r. ⌜ States (now (text .entry)) (globalsIn (now (text .entry)) (now (tree .entry)) (now (globals .entry)) g) (now (locals .entry)) l count (resultOf result)
+        (λ e. emitOf at e) n rest (drop (p + 8) (now (tree .entry))) q (now (core .entry)) r (now (locals .exit)) (now (core .exit)) ⌝ }
+{
+    let r = expression(
+        text,
+        tree,
+        globals,
+        g,
+        locals,
+        l,
+        types,
+        starts,
+        core,
+        p + 8,
+        q + 8,
+        n,
+    );
+    match r {
+        Given::Type(ty) => {
+            if !same_type(INT, ty) {
+                return Step::Broken(at);
+            }
+            header(core, q, statement::EMIT, 0, n, rest);
+            Step::Next(l, count)
+        }
+        Given::Broken(b) => Step::Broken(b),
+    }
+}
+
+// "A function with a result type returns that type everywhere. Others only use `return;`."
+pub fn give(
+    text: &[u8],
+    tree: &[u32],
+    globals: &[u32],
+    g: usize,
+    locals: &[u32],
+    l: usize,
+    types: &mut [u32],
+    starts: &mut [u32],
+    core: &mut [u32],
+    p: usize,
+    q: usize,
+    n: u32,
+    rest: u32,
+    at: u32,
+    count: u32,
+    result: u32,
+) -> Step
+    requires { ⌜ HeaderRoom (now tree) g l (now types) (now starts) (now core) p q ⌝ }
+    ensures { λ r. ⌜ States (now (text .entry)) (globalsIn (now (text .entry)) (now (tree .entry)) (now (globals .entry)) g) (now (locals .entry)) l count (resultOf result)
+        (λ e. giveOf at e) n rest (drop (p + 8) (now (tree .entry))) q (now (core .entry)) r (now (locals .exit)) (now (core .exit)) ⌝ }
+{
+    let r = expression(
+        text,
+        tree,
+        globals,
+        g,
+        locals,
+        l,
+        types,
+        starts,
+        core,
+        p + 8,
+        q + 8,
+        n,
+    );
+    match r {
+        Given::Type(ty) => {
+            if result == 0 {
+                return Step::Broken(at);
+            }
+            if !same_type(result, ty) {
+                return Step::Broken(at);
+            }
+            header(core, q, statement::GIVE, 0, n, rest);
+            Step::Next(l, count)
+        }
+        Given::Broken(b) => Step::Broken(b),
+    }
+}
+
+// "assignments keep it": a visible local's type.
+pub fn assign(
+    text: &[u8],
+    tree: &[u32],
+    globals: &[u32],
+    g: usize,
+    locals: &[u32],
+    l: usize,
+    types: &mut [u32],
+    starts: &mut [u32],
+    core: &mut [u32],
+    p: usize,
+    q: usize,
+    n: u32,
+    rest: u32,
+    at: u32,
+    size: u32,
+    count: u32,
+    result: u32,
+) -> Step
+    requires { ⌜ HeaderRoom (now tree) g l (now types) (now starts) (now core) p q ⌝ }
+    ensures { λ r. ⌜ States (now (text .entry)) (globalsIn (now (text .entry)) (now (tree .entry)) (now (globals .entry)) g) (now (locals .entry)) l count (resultOf result)
+        (λ e. assignOf at (part (now (text .entry)) at size) e) n rest (drop (p + 8) (now (tree .entry))) q (now (core .entry)) r (now (locals .exit)) (now (core .exit)) ⌝ }
+{
+    let r = expression(
+        text,
+        tree,
+        globals,
+        g,
+        locals,
+        l,
+        types,
+        starts,
+        core,
+        p + 8,
+        q + 8,
+        n,
+    );
+    match r {
+        Given::Type(ty) => {
+            let i = find_local(text, locals, l, at, size);
+            if i == 0 {
+                return Step::Broken(at);
+            }
+            let wanted = word(locals, LOCAL_WORDS * (i - 1) + LOCAL_TYPE);
+            if !same_type(wanted, ty) {
+                return Step::Broken(at);
+            }
+            let slot = word(locals, LOCAL_WORDS * (i - 1) + LOCAL_SLOT);
+            header(core, q, statement::PUT, slot, n, rest);
+            Step::Next(l, count)
+        }
+        Given::Broken(b) => Step::Broken(b),
+    }
+}
+
+// "Others only use `return;`."
+pub fn leave(core: &mut [u32], q: usize, at: u32, l: usize, count: u32, result: u32) -> Step
+    requires { ⌜ q + 8 ≤ length (now core) ⌝ }
+    ensures { λ r. ⌜ Leaves l count (resultOf result) at q (now (core .entry)) r (now (core .exit)) ⌝ }
+{
+    if result != 0 {
+        return Step::Broken(at);
+    }
+    header(core, q, statement::LEAVE, 0, 0, 0);
+    Step::Next(l, count)
+}
+
+// A local more: its name's place and length, its type, its slot.
+pub fn enter(locals: &mut [u32], l: usize, at: u32, size: u32, ty: u32, slot: u32)
+    requires { ⌜ (l ≤ most-entries) × (4 * l + 4 ≤ length (now locals)) ⌝ }
+    ensures { λ _. ⌜ Enters (now (locals .entry)) l at size ty slot (now (locals .exit)) ⌝ }
+{
+    let i = LOCAL_WORDS * l;
+    locals[i] = at;
+    locals[i + 1] = size;
+    locals[i + 2] = ty;
+    locals[i + 3] = slot;
+}
+
+// "No local or parameter may have the name of an array, a function, or another local or parameter visible there."
+pub fn fresh(
+    text: &[u8],
+    tree: &[u32],
+    globals: &[u32],
+    g: usize,
+    locals: &[u32],
+    l: usize,
+    at: u32,
+    size: u32,
+) -> bool
+    requires { ⌜ (g ≤ most-entries) × (l ≤ most-entries) ⌝ }
+    ensures { λ r. ⌜ Freshly (now (text .entry)) (globalsIn (now (text .entry)) (now (tree .entry)) (now (globals .entry)) g) (now (locals .entry)) l at size r ⌝ }
+{
+    let i = find_global(text, tree, globals, g, at, size);
+    if i != 0 {
+        return false;
+    }
+    let j = find_local(text, locals, l, at, size);
+    j == 0
+}
+
+// A local is declared: it is visible from the end of its `let`.
+pub fn declare(
+    text: &[u8],
+    tree: &[u32],
+    globals: &[u32],
+    g: usize,
+    locals: &mut [u32],
+    l: usize,
+    types: &mut [u32],
+    starts: &mut [u32],
+    core: &mut [u32],
+    p: usize,
+    q: usize,
+    n: u32,
+    rest: u32,
+    at: u32,
+    size: u32,
+    wanted: u32,
+    count: u32,
+    result: u32,
+) -> Step
+    requires { ⌜ HeaderRoom (now tree) g l (now types) (now starts) (now core) p q × (4 * l + 4 ≤ length (now locals)) ⌝ }
+    ensures { λ r. ⌜ States (now (text .entry)) (globalsIn (now (text .entry)) (now (tree .entry)) (now (globals .entry)) g) (now (locals .entry)) l count (resultOf result)
+        (λ e. declareOf at (part (now (text .entry)) at size) (typeOf wanted) e) n rest (drop (p + 8) (now (tree .entry))) q (now (core .entry)) r (now (locals .exit)) (now (core .exit)) ⌝ }
+{
+    let r = expression(
+        text,
+        tree,
+        globals,
+        g,
+        locals,
+        l,
+        types,
+        starts,
+        core,
+        p + 8,
+        q + 8,
+        n,
+    );
+    match r {
+        Given::Type(ty) => {
+            if !same_type(wanted, ty) {
+                return Step::Broken(at);
+            }
+            if !fresh(text, tree, globals, g, locals, l, at, size) {
+                return Step::Broken(at);
+            }
+            if MOST_LOCALS <= count {
+                return Step::Broken(at);
+            }
+            enter(locals, l, at, size, wanted, count);
+            header(core, q, statement::PUT, count, n, rest);
+            Step::Next(l + 1, count + 1)
+        }
+        Given::Broken(b) => Step::Broken(b),
+    }
+}
