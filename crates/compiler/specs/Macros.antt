@@ -1,0 +1,39 @@
+-- What the functions for the pieces of code that `codegen` is made of ensure: a register is given by its number, and a strict operator by its number in the
+-- flat form's table.
+use Prim.Native.Nat.{ℕ}
+use mathlib.Core.Path.{_≡_}
+use mathlib.Core.Bool.{Bool}
+use mathlib.Core.List.{List, [], _∷_}
+use lib.ListN.{getD}
+use Rattle.processor.specs.declared.Cond.{Cond}
+use Rattle.processor.specs.declared.Instr.{Instr}
+use Rattle.language.specs.Tree.{Strict, eq, ne, lt, le, gt, ge, add, sub, mul, div, rem, Unary, negate, not}
+use Rattle.symbolic.specs.Symbolic.{Reg, number, Instruction}
+use Rattle.symbolic.specs.Real.{real}
+use Rattle.codegen.specs.Places as P
+use Rattle.codegen.specs.Operators as O
+use Rattle.compiler.specs.declared.Place.{Place}
+use Rattle.compiler.specs.declared.Place.the-variants.{Constant, Local, Temporary}
+use Rattle.compiler.specs.Tape.{Emits}
+
+abbrev pub placed : Place → P.Place
+placed (Constant n) = P.constant n
+placed (Local y) = P.local y
+placed (Temporary d) = P.temporary d
+
+-- code about one register, and about two
+pub record EmitsAt (code : Reg → List Instruction) (n : ℕ) (at : ℕ) (ws ws′ : List ℕ) (r : ℕ) : Type 0 where
+  pub each : (p : Reg) → number p ≡ n → Emits (code p) at ws ws′ r
+
+pub record EmitsFor (code : Reg → Reg → List Instruction) (m n : ℕ) (at : ℕ) (ws ws′ : List ℕ) (r : ℕ) : Type 0 where
+  pub each : (p q : Reg) → number p ≡ m → number q ≡ n → Emits (code p q) at ws ws′ r
+
+-- code about one instruction, which stands at any position
+pub record EmitsOne (code : Instruction → List Instruction) (i : Instr) (at : ℕ) (ws ws′ : List ℕ) (r : ℕ) : Type 0 where
+  pub each : (x : Instruction) → ((k : ℕ) → real k x ≡ i) → Emits (code x) at ws ws′ r
+
+unfoldable pub strictOf : ℕ → Strict
+strictOf o = getD (eq ∷ ne ∷ lt ∷ le ∷ gt ∷ ge ∷ add ∷ sub ∷ mul ∷ div ∷ []) o rem
+
+unfoldable pub unaryOf : ℕ → Unary
+unaryOf o = getD (negate ∷ []) o not
