@@ -97,21 +97,20 @@ module _ {at r : ℕ} {ws ws′ : List ℕ} where
 
   -- a value moved
 
-  moves : (p : Place) (d : ℕ) {t s : ℕ} → t ≡ number (target d) → s ≡ number (source (placed p) 0) →
-      EmitsOne (λ x. fetch (placed p) 0 ++ (x ∷ keep d)) (OpImm Add t s 0) at ws ws′ r →
-      Emits (fetch (placed p) 0 ++ (mv (target d) (source (placed p) 0) ∷ keep d)) at ws ws′ r
-  moves p d {t} {s} et es f = f .each (mv (target d) (source (placed p) 0)) (λ (k : ℕ).
-      ap (λ (x : ℕ). OpImm Add x (number (source (placed p) 0)) 0) (sym et) ∙ ap (λ (x : ℕ). OpImm Add t x 0) (sym es))
+  moves : (p : P.Place) (d : ℕ) {t s : ℕ} → t ≡ number (target d) → s ≡ number (source p 0) → EmitsOne (λ x. fetch p 0 ++ (x ∷ keep d)) (OpImm Add t s 0) at ws ws′ r →
+      Emits (fetch p 0 ++ (mv (target d) (source p 0) ∷ keep d)) at ws ws′ r
+  moves p d {t} {s} et es f = f .each (mv (target d) (source p 0)) (λ (k : ℕ).
+      ap (λ (x : ℕ). OpImm Add x (number (source p 0)) 0) (sym et) ∙ ap (λ (x : ℕ). OpImm Add t x 0) (sym es))
 
   pub carry-constant : (d : ℕ) {p : Place} {n t s : ℕ} → p ≡ At.Constant n → t ≡ number (target d) → s ≡ number (source (placed p) 0) →
-      EmitsOne (λ x. fetch (placed p) 0 ++ (x ∷ keep d)) (OpImm Add t s 0) at ws ws′ r → Emits (move (placed p) d) at ws ws′ r
+      EmitsOne (λ x. fetch (P.constant n) 0 ++ (x ∷ keep d)) (OpImm Add t s 0) at ws ws′ r → Emits (move (placed p) d) at ws ws′ r
   carry-constant d {p} {n} {t} {s} e et es f = subst⁻¹ (λ (q : Place). Emits (move (placed q) d) at ws ws′ r) e
-      (subst (λ (q : Place). Emits (fetch (placed q) 0 ++ (mv (target d) (source (placed q) 0) ∷ keep d)) at ws ws′ r) e (moves p d et es f))
+      (moves (P.constant n) d et (es ∙ ap (λ (q : Place). number (source (placed q) 0)) e) f)
 
   pub carry-local : (d : ℕ) {p : Place} {y t s : ℕ} → p ≡ At.Local y → t ≡ number (target d) → s ≡ number (source (placed p) 0) →
-      EmitsOne (λ x. fetch (placed p) 0 ++ (x ∷ keep d)) (OpImm Add t s 0) at ws ws′ r → Emits (move (placed p) d) at ws ws′ r
+      EmitsOne (λ x. fetch (P.local y) 0 ++ (x ∷ keep d)) (OpImm Add t s 0) at ws ws′ r → Emits (move (placed p) d) at ws ws′ r
   carry-local d {p} {y} {t} {s} e et es f = subst⁻¹ (λ (q : Place). Emits (move (placed q) d) at ws ws′ r) e
-      (subst (λ (q : Place). Emits (fetch (placed q) 0 ++ (mv (target d) (source (placed q) 0) ∷ keep d)) at ws ws′ r) e (moves p d et es f))
+      (moves (P.local y) d et (es ∙ ap (λ (q : Place). number (source (placed q) 0)) e) f)
 
   -- a value brought
 

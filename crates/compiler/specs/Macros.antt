@@ -4,7 +4,9 @@ use Prim.Native.Nat.{ℕ}
 use mathlib.Core.Path.{_≡_}
 use mathlib.Core.Bool.{Bool}
 use mathlib.Core.List.{List, [], _∷_}
+use mathlib.Core.Option.{Option, none, some}
 use lib.ListN.{getD}
+use Rattle.processor.specs.declared.Alu.{Alu}
 use Rattle.processor.specs.declared.Cond.{Cond}
 use Rattle.processor.specs.declared.Instr.{Instr}
 use Rattle.language.specs.Tree.{Strict, eq, ne, lt, le, gt, ge, add, sub, mul, div, rem, Unary, negate, not}
@@ -14,6 +16,14 @@ use Rattle.codegen.specs.Places as P
 use Rattle.codegen.specs.Operators as O
 use Rattle.compiler.specs.declared.Place.{Place}
 use Rattle.compiler.specs.declared.Place.the-variants.{Constant, Local, Temporary}
+use Rattle.compiler.specs.declared.Work.{Work}
+use Rattle.compiler.specs.declared.Work.the-variants.{Plain, Divided, Tested}
+use Rattle.compiler.specs.declared.Relation.{Relation}
+use Rattle.compiler.specs.declared.Relation.the-variants.{One}
+use Rattle.compiler.specs.declared.Relation.the-variants as R
+use Rattle.compiler.specs.declared.Immediate.{Immediate}
+use Rattle.compiler.specs.declared.Immediate.the-variants.{With}
+use Rattle.compiler.specs.declared.Immediate.the-variants as I
 use Rattle.compiler.specs.Tape.{Emits}
 
 abbrev pub placed : Place → P.Place
@@ -37,3 +47,18 @@ strictOf o = getD (eq ∷ ne ∷ lt ∷ le ∷ gt ∷ ge ∷ add ∷ sub ∷ mul
 
 unfoldable pub unaryOf : ℕ → Unary
 unaryOf o = getD (negate ∷ []) o not
+
+-- the enums of src/lib.rt, as codegen's
+
+abbrev pub worked : Work → O.Work
+worked (Plain o t) = O.plain o t
+worked (Divided o) = O.divided o
+worked (Tested c t) = O.tested c t
+
+abbrev pub related : Relation → Option (Cond × Bool)
+related (One c t) = some (c, t)
+related R.None = none
+
+abbrev pub immediately : Immediate → Option (Alu × ℕ)
+immediately (With o n) = some (o, n)
+immediately I.None = none

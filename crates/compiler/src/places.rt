@@ -31,17 +31,18 @@ pub fn short(n: u32) -> bool
 }
 
 // The upper part of a word, for lui.
-pub fn upper(n: u32) -> u32
+pub fn upper(n: u64) -> u32
+    requires { ⌜ n < 1099511627776 ⌝ }
     ensures { λ r. ⌜ r ≡ upperOf n ⌝ }
 {
-    ((n as u64 + 2048) / 4096 * 4096 % 4294967296) as u32
+    ((n + 2048) / 4096 * 4096 % 4294967296) as u32
 }
 
 // The lower part, an immediate.
-pub fn lower(n: u32) -> u32
+pub fn lower(n: u64) -> u32
     ensures { λ r. ⌜ r ≡ lowerOf n ⌝ }
 {
-    sign_extend(12, n % 4096)
+    sign_extend(12, (n % 4096) as u32)
 }
 
 // A constant to a register: one instruction, or two.
@@ -52,8 +53,8 @@ pub fn constant_to(out: &mut [u32], at: usize, r: u32, n: u32) -> usize
     if short(n) {
         return put(out, at, Instr::OpImm(Alu::Add, r, 0, n));
     }
-    let low = lower(n);
-    let high = upper(n);
+    let low = lower(n as u64);
+    let high = upper(n as u64);
     let last = put(out, at, Instr::OpImm(Alu::Add, r, r, low));
     put(out, last, Instr::Lui(r, high))
 }
