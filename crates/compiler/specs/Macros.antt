@@ -9,7 +9,7 @@ use lib.ListN.{getD}
 use Rattle.processor.specs.declared.Alu.{Alu}
 use Rattle.processor.specs.declared.Cond.{Cond}
 use Rattle.processor.specs.declared.Instr.{Instr}
-use Rattle.language.specs.Tree.{Strict, eq, ne, lt, le, gt, ge, add, sub, mul, div, rem, Unary, negate, not}
+use Rattle.language.specs.Tree.{Strict, eq, ne, lt, le, gt, ge, add, sub, mul, div, rem}
 use Rattle.symbolic.specs.Symbolic.{Reg, number, Instruction}
 use Rattle.symbolic.specs.Real.{real}
 use Rattle.codegen.specs.Places as P
@@ -42,11 +42,9 @@ pub record EmitsFor (code : Reg → Reg → List Instruction) (m n : ℕ) (at : 
 pub record EmitsOne (code : Instruction → List Instruction) (i : Instr) (at : ℕ) (ws ws′ : List ℕ) (r : ℕ) : Type 0 where
   pub each : (x : Instruction) → ((k : ℕ) → real k x ≡ i) → Emits (code x) at ws ws′ r
 
+-- the strict operator with a number; past the table the last one
 unfoldable pub strictOf : ℕ → Strict
 strictOf o = getD (eq ∷ ne ∷ lt ∷ le ∷ gt ∷ ge ∷ add ∷ sub ∷ mul ∷ div ∷ []) o rem
-
-unfoldable pub unaryOf : ℕ → Unary
-unaryOf o = getD (negate ∷ []) o not
 
 -- the enums of src/lib.rt, as codegen's
 

@@ -4,7 +4,7 @@ use processor::Cond;
 
 pub mod tape; // instructions, put one before the other
 pub mod places; // where values are
-pub mod operators; // operators, jumps, conditions and elements
+pub mod jumps; // jumps and conditions
 pub mod strict; // the strict operators
 
 // Where a value is: nowhere yet, in a local's word, in a temporary.

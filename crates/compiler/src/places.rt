@@ -2,22 +2,27 @@
 ghost use mathlib.Core.Path.{_≡_};
 ghost use mathlib.Core.List.{_∷_, [], _++_};
 ghost use Prim.Native.Nat.{_+_, _*_, _%_, _≤_, _<_};
-ghost use Rattle.symbolic.specs.Symbolic.{number, answer, scratch, sp, lw, sw, mv, reg};
-ghost use Rattle.codegen.specs.Places.{short as shortOf, upperOf, lowerOf, constantTo, source as sourceOf, fetch as fetchOf, target as targetOf, keep as keepOf, move as moveOf, bring as bringOf, inRegister, temporary, above as aboveOf};
+ghost use Rattle.symbolic.specs.Symbolic.{number, scratch, sp, lw, sw};
+ghost use Rattle.codegen.specs.Places.{short as shortOf, upperOf, lowerOf, constantTo, source as sourceOf, fetch as fetchOf, target as targetOf, keep as keepOf, move as moveOf, bring as bringOf, temporary};
 ghost use Rattle.compiler.specs.Tape.{Emits};
 ghost use Rattle.compiler.specs.Macros.{placed, EmitsAt, EmitsOne};
+use crate::Place;
+use crate::tape::put;
 use processor::Alu;
 use processor::Instr;
 use processor::Width;
 use word::bits::sign_extend;
-use crate::Place;
-use crate::tape::put;
 
 pub const SP: u32 = 2;
+
 pub const SCRATCH: u32 = 4;
+
 pub const ANSWER: u32 = 10;
+
 pub const REQUEST: u32 = 17;
+
 pub const TEMPORARIES: u32 = 25;
+
 pub const IN_REGISTERS: u32 = 7;
 
 // Whether 12 bits, sign-extended, give the word.
@@ -85,7 +90,11 @@ pub fn source(p: Place, w: u32) -> u32
     match p {
         Place::Constant(n) => if n == 0 { 0 } else { SCRATCH + w },
         Place::Local(y) => SCRATCH + w,
-        Place::Temporary(d) => if d < IN_REGISTERS { TEMPORARIES + d } else { SCRATCH + w },
+        Place::Temporary(d) => if d < IN_REGISTERS {
+            TEMPORARIES + d
+        } else {
+            SCRATCH + w
+        },
     }
 }
 

@@ -1,27 +1,21 @@
 // The strict operators, by their numbers in the flat form's table: as a value, as one branch, as one instruction with an immediate.
 ghost use mathlib.Core.Path.{_≡_};
-ghost use mathlib.Core.List.{_∷_, [], _++_};
-ghost use Prim.Native.Nat.{ℕ, suc, _+_, _*_, _%_, _≤_, _<_};
+ghost use mathlib.Core.List.{_∷_};
+ghost use Prim.Native.Nat.{_≤_};
 ghost use Rattle.processor.specs.declared.Alu.the-variants.{Add as AddOf};
 ghost use Rattle.processor.specs.declared.Cond.the-variants.{Ne as NeOf};
-ghost use Rattle.symbolic.specs.Symbolic.{number, x0, op, opi, branch, jump as jumpOf, call as callOf};
+ghost use Rattle.symbolic.specs.Symbolic.{x0, op, opi, branch, jump as jumpOf, call as callOf};
 ghost use Rattle.codegen.specs.Places.{short as shortOf, target as targetOf, keep as keepOf};
 ghost use Rattle.word.specs.Choice.{pick};
 ghost use mathlib.Core.Option.{some, none};
 ghost use Rattle.codegen.specs.Operators.{stub, work as workOf, working as workingOf, relation as relationOf, withConstant, immediate as immediateOf, operating as operatingOf};
 ghost use Rattle.compiler.specs.Tape.{Emits};
-ghost use Rattle.compiler.specs.Macros.{placed, EmitsFor, EmitsOne, strictOf, worked, related, immediately};
-use processor::Alu;
-use processor::Cond;
-use processor::Instr;
-use flat::operator::{EQ, NE, LT, LE, GT, GE, ADD, SUB, MUL, DIV};
-use word::arithmetic::neg;
+ghost use Rattle.compiler.specs.Macros.{placed, EmitsFor, strictOf, worked, related, immediately};
 use crate::Immediate;
 use crate::Place;
 use crate::Relation;
 use crate::Work;
-use crate::operators::RA;
-use crate::operators::jump;
+use crate::jumps::RA;
 use crate::places::fetch;
 use crate::places::keep;
 use crate::places::kept;
@@ -31,6 +25,20 @@ use crate::places::target;
 use crate::tape::onward;
 use crate::tape::put;
 use crate::tape::reach;
+use flat::operator::ADD;
+use flat::operator::DIV;
+use flat::operator::EQ;
+use flat::operator::GE;
+use flat::operator::GT;
+use flat::operator::LE;
+use flat::operator::LT;
+use flat::operator::MUL;
+use flat::operator::NE;
+use flat::operator::SUB;
+use processor::Alu;
+use processor::Cond;
+use processor::Instr;
+use word::arithmetic::neg;
 
 // What an operator is as a value.
 pub fn work(o: u32) -> Work
@@ -74,7 +82,11 @@ pub fn relation(o: u32) -> Relation
 pub fn if_short(o: Alu, n: u32) -> Immediate
     ensures { λ r. ⌜ immediately r ≡ pick (shortOf n) (some (o, n)) none ⌝ }
 {
-    if short(n) { Immediate::With(o, n) } else { Immediate::None }
+    if short(n) {
+        Immediate::With(o, n)
+    } else {
+        Immediate::None
+    }
 }
 
 // What an operator is with a constant on the right.

@@ -1,8 +1,8 @@
 -- Case by case.
 use native.Mathlib.Omega.{arith}
 use Rattle.compiler.proofs.Jumps.{jumped}
-use Rattle.compiler.proofs.operators.sense.Statement.{statement}
-use Rattle.compiler.proofs.operators.sense.Tie as tie
+use Rattle.compiler.proofs.jumps.sense.Statement.{statement}
+use Rattle.compiler.proofs.jumps.sense.Tie as tie
 use borrow.Author.Needs.{needs}
 
 opposite-requires : tie.Need-opposite-requires

@@ -2,8 +2,8 @@
 use native.Mathlib.Omega.{arith}
 use Rattle.compiler.specs.Macros.{placed}
 use Rattle.compiler.proofs.Jumps.{compares, compares-turned}
-use Rattle.compiler.proofs.operators.comparing.Statement.{statement}
-use Rattle.compiler.proofs.operators.comparing.Tie as tie
+use Rattle.compiler.proofs.jumps.comparing.Statement.{statement}
+use Rattle.compiler.proofs.jumps.comparing.Tie as tie
 use borrow.Author.Needs.{needs}
 
 sense-requires : tie.Need-sense-requires

@@ -1,8 +1,8 @@
 -- Case by case.
 use native.Mathlib.Omega.{arith}
 use Rattle.compiler.proofs.Jumps.{always-none, always-jump, never-jump, never-none}
-use Rattle.compiler.proofs.operators.always.Statement.{statement}
-use Rattle.compiler.proofs.operators.always.Tie as tie
+use Rattle.compiler.proofs.jumps.always.Statement.{statement}
+use Rattle.compiler.proofs.jumps.always.Tie as tie
 use borrow.Author.Needs.{needs}
 
 returns : tie.Need-returns

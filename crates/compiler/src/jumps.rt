@@ -1,27 +1,18 @@
-// Operators, jumps, conditions and elements.
+// Jumps and conditions: how code is passed over.
 ghost use mathlib.Core.Path.{_≡_};
-ghost use mathlib.Core.List.{_∷_, [], _++_};
-ghost use Prim.Native.Nat.{ℕ, suc, _+_, _*_, _%_, _≤_, _<_};
-ghost use Rattle.processor.specs.declared.Cond.the-variants.{Ne as NeOf};
-ghost use Rattle.symbolic.specs.Symbolic.{number, answer, scratch, sp, lw, sw, mv, reg, x0, op, jump as jumpOf};
-ghost use Rattle.codegen.specs.Places.{source as sourceOf, fetch as fetchOf, target as targetOf, keep as keepOf};
-ghost use Rattle.codegen.specs.Operators.{opposite as oppositeOf, skip as skipOf, sense as senseOf, testing as testingOf, comparing as comparingOf, always as alwaysOf, applying as applyingOf, working as workingOf, left as leftOf, right as rightOf, plain as plainWork, divided as dividedWork, tested as testedWork};
+ghost use mathlib.Core.List.{_∷_, []};
+ghost use Prim.Native.Nat.{suc, _+_, _≤_, _<_};
+ghost use Rattle.symbolic.specs.Symbolic.{jump as jumpOf};
+ghost use Rattle.codegen.specs.Operators.{opposite as oppositeOf, skip as skipOf, sense as senseOf, testing as testingOf, comparing as comparingOf, always as alwaysOf};
 ghost use Rattle.compiler.specs.Tape.{Emits};
-ghost use Rattle.compiler.specs.Macros.{placed, EmitsAt, EmitsFor, EmitsOne, unaryOf};
-use processor::Alu;
-use processor::Cond;
-use processor::Instr;
-use processor::Width;
+ghost use Rattle.compiler.specs.Macros.{placed, EmitsFor};
 use crate::Place;
-use crate::places::SCRATCH;
 use crate::places::fetch;
-use crate::places::keep;
-use crate::places::kept;
 use crate::places::source;
-use crate::places::target;
 use crate::tape::onward;
 use crate::tape::put;
-use crate::tape::reach;
+use processor::Cond;
+use processor::Instr;
 
 pub const RA: u32 = 1;
 

@@ -1,8 +1,8 @@
 -- Near or far.
 use native.Mathlib.Omega.{arith}
 use Rattle.compiler.proofs.Jumps.{skip-near, skip-far}
-use Rattle.compiler.proofs.operators.skip.Statement.{statement}
-use Rattle.compiler.proofs.operators.skip.Tie as tie
+use Rattle.compiler.proofs.jumps.skip.Statement.{statement}
+use Rattle.compiler.proofs.jumps.skip.Tie as tie
 use borrow.Author.Needs.{needs}
 
 add-onward : tie.Need-add-onward

@@ -2,8 +2,8 @@
 use native.Mathlib.Omega.{arith}
 use Rattle.compiler.specs.Macros.{placed}
 use Rattle.compiler.proofs.Jumps.{tests}
-use Rattle.compiler.proofs.operators.testing.Statement.{statement}
-use Rattle.compiler.proofs.operators.testing.Tie as tie
+use Rattle.compiler.proofs.jumps.testing.Statement.{statement}
+use Rattle.compiler.proofs.jumps.testing.Tie as tie
 use borrow.Author.Needs.{needs}
 
 sense-requires : tie.Need-sense-requires

@@ -1,8 +1,8 @@
 -- The distance is the definition's.
 use native.Mathlib.Omega.{arith}
 use Rattle.compiler.proofs.Jumps.{jumped}
-use Rattle.compiler.proofs.operators.jump.Statement.{statement}
-use Rattle.compiler.proofs.operators.jump.Tie as tie
+use Rattle.compiler.proofs.jumps.jump.Statement.{statement}
+use Rattle.compiler.proofs.jumps.jump.Tie as tie
 use borrow.Author.Needs.{needs}
 
 add-onward : tie.Need-add-onward

@@ -1,8 +1,8 @@
 -- Case by case.
 use native.Mathlib.Omega.{arith}
 use Rattle.compiler.proofs.Jumps.{jumped}
-use Rattle.compiler.proofs.operators.opposite.Statement.{statement}
-use Rattle.compiler.proofs.operators.opposite.Tie as tie
+use Rattle.compiler.proofs.jumps.opposite.Statement.{statement}
+use Rattle.compiler.proofs.jumps.opposite.Tie as tie
 use borrow.Author.Needs.{needs}
 
 enum-told : tie.Need-enum-told
