@@ -1,7 +1,7 @@
 -- What is laid piece by piece.
 use native.Mathlib.Omega.{arith}
 use Rattle.compiler.specs.Macros.{placed}
-use Rattle.compiler.proofs.Jumps.{compares, compares-turned}
+use Rattle.compiler.proofs.Skips.{compares, compares-turned}
 use Rattle.compiler.proofs.jumps.comparing.Statement.{statement}
 use Rattle.compiler.proofs.jumps.comparing.Tie as tie
 use borrow.Author.Needs.{needs}

@@ -1,6 +1,6 @@
 -- The distance is the definition's.
 use native.Mathlib.Omega.{arith}
-use Rattle.compiler.proofs.Jumps.{jumped}
+use Rattle.compiler.proofs.Skips.{jumped}
 use Rattle.compiler.proofs.jumps.jump.Statement.{statement}
 use Rattle.compiler.proofs.jumps.jump.Tie as tie
 use borrow.Author.Needs.{needs}

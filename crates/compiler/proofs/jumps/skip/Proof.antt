@@ -1,6 +1,6 @@
 -- Near or far.
 use native.Mathlib.Omega.{arith}
-use Rattle.compiler.proofs.Jumps.{skip-near, skip-far}
+use Rattle.compiler.proofs.Skips.{skip-near, skip-far}
 use Rattle.compiler.proofs.jumps.skip.Statement.{statement}
 use Rattle.compiler.proofs.jumps.skip.Tie as tie
 use borrow.Author.Needs.{needs}

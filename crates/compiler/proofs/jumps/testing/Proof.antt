@@ -1,7 +1,7 @@
 -- What is laid piece by piece.
 use native.Mathlib.Omega.{arith}
 use Rattle.compiler.specs.Macros.{placed}
-use Rattle.compiler.proofs.Jumps.{tests}
+use Rattle.compiler.proofs.Skips.{tests}
 use Rattle.compiler.proofs.jumps.testing.Statement.{statement}
 use Rattle.compiler.proofs.jumps.testing.Tie as tie
 use borrow.Author.Needs.{needs}
