@@ -1,0 +1,34 @@
+-- What the compiler's functions ensure. Code is written from its end towards its start, so that everything that a jump passes over is written before it:
+-- the words, and the position before which the next instruction goes. Before position 0 nothing is written.
+use Prim.Native.Nat.{ℕ, zero, suc, _-_}
+use mathlib.Core.Path.{_≡_}
+use mathlib.Core.List.{List, [], _∷_}
+use lib.ListN.{set}
+use Rattle.processor.specs.declared.Instr.{Instr}
+use Rattle.processor.specs.Instructions.{encodeOf}
+use Rattle.symbolic.specs.Symbolic.{Instruction}
+use Rattle.symbolic.specs.Real.{real}
+
+pub record Tape : Type 0 where
+  pub words : List ℕ
+  pub at : ℕ
+
+abbrev pub tape : List ℕ → ℕ → Tape
+tape ws at = record { words = ws; at = at }
+
+-- one instruction of document 03
+unfoldable pub putting : Instr → List ℕ → ℕ → Tape
+putting i ws zero = tape ws zero
+putting i ws (suc k) = tape (set ws k (encodeOf i)) k
+
+-- code of the symbolic processor, each instruction at its position
+unfoldable pub laying : List Instruction → List ℕ → ℕ → Tape
+laying [] ws at = tape ws at
+laying (i ∷ c) ws at = putting (real (laying c ws at .at - 1) i) (laying c ws at .words) (laying c ws at .at)
+
+-- One instruction was put, and code was laid, before `at`: the words that are now, and the position.
+pub record Puts (i : Instr) (at : ℕ) (ws ws′ : List ℕ) (r : ℕ) : Type 0 where
+  pub same : putting i ws at ≡ tape ws′ r
+
+pub record Emits (c : List Instruction) (at : ℕ) (ws ws′ : List ℕ) (r : ℕ) : Type 0 where
+  pub same : laying c ws at ≡ tape ws′ r
