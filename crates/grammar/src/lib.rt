@@ -28,6 +28,11 @@ const EXPR_LEVEL: u32 = 1;
 
 const COMP_LEVEL: u32 = 3;
 
+const UNARY_LEVEL: u32 = 6;
+
+// At most so many things may be open.
+const MOST_OPEN: u32 = 32;
+
 const MANY: usize = 65536;
 
 // By a token's kind: its level as an operator, 0 for none; its item's kind; its number. A row of the operators' table is an entry of each.
