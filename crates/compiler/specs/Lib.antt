@@ -1,2 +1,0 @@
-pub mod Tape
-pub mod Macros
