@@ -85,6 +85,7 @@ pub record Edges : Type 0 where
   pub array-without-index-assigned : ok (elaborate (array 1 (bytes "a") 1 ∷ main (assign 2 (bytes "a") (number 1) ∷ []) ∷ []) 0) ≡ 3
   pub function-without-a-call : ok (elaborate (main (emit 0 (name 3 main-name) ∷ []) ∷ []) 0) ≡ 4
   pub named-twice : ok (elaborate (array 3 (nth 1) 1 ∷ function 5 (nth 1) [] none (body []) ∷ main [] ∷ []) 0) ≡ 6
+  pub array-named-twice : ok (elaborate (function 3 (nth 1) [] none (body []) ∷ array 5 (nth 1) 1 ∷ main [] ∷ []) 0) ≡ 6
   pub lets-of-blocks-count : ok (elaborate (main (when 0 (truth true) (body (lets 1)) ∷ lets 64) ∷ []) 0) ≡ 1
   -- Types, calls and returns
   pub no-result-in-an-expression : ok (elaborate (main (emit 0 (call 4 main-name T.none) ∷ []) ∷ []) 0) ≡ 5
@@ -123,4 +124,4 @@ pub record Edges : Type 0 where
 
 pub edges : Edges
 unfolding bytes _>>=_ need found sameName globalOf localOf arrayOf functionOf declareItem declareAll mainOf want changed joined combined indexed fit called known expr exprs fresh leaves gives stmt blockOf parameters isReturn endsInReturn functionFrom functionsFrom elaborate runOf bind begin apply operate read write fetch assignSlot rounds append eval evals exec block back callAt addW subW mulW negW negative magnitude ltS quotS remS bitOf
-edges = record { arrays-64 = refl; arrays-65 = refl; elements-16384 = refl; elements-16385 = refl; size-4097 = refl; size-0 = refl; functions-256 = refl; functions-257 = refl; parameters-8 = refl; parameters-9 = refl; locals-64 = refl; locals-65 = refl; parameter-twice = refl; main-an-array = refl; main-with-a-parameter = refl; main-with-a-result = refl; side-by-side = refl; hidden-in-a-block = refl; named-like-a-function = refl; after-its-block = refl; array-without-index-assigned = refl; function-without-a-call = refl; named-twice = refl; lets-of-blocks-count = refl; no-result-in-an-expression = refl; two-types-compared = refl; condition-before-its-block = refl; both-blocks-return = refl; return-not-last = refl; return-without-a-value = refl; return-of-another-type = refl; return-with-a-value = refl; result-dropped = refl; too-many-arguments = refl; main-calls-itself = refl; trap-at-the-last-unit = refl; one-unit-less = refl; no-fuel-for-nothing = refl; no-fuel-for-a-statement = refl; no-fuel-for-its-node = refl; no-room = refl; just-enough = refl; trap-before-full = refl; while-once = refl; while-no-condition = refl; index-below-0 = refl; index-least = refl; index-minus-0 = refl; order-at-the-ends = refl; returns-from-a-loop = refl; and-skips = refl; or-skips = refl; greater-and-less = refl; not-true = refl; and-needs-both = refl }
+edges = record { arrays-64 = refl; arrays-65 = refl; elements-16384 = refl; elements-16385 = refl; size-4097 = refl; size-0 = refl; functions-256 = refl; functions-257 = refl; parameters-8 = refl; parameters-9 = refl; locals-64 = refl; locals-65 = refl; parameter-twice = refl; main-an-array = refl; main-with-a-parameter = refl; main-with-a-result = refl; side-by-side = refl; hidden-in-a-block = refl; named-like-a-function = refl; after-its-block = refl; array-without-index-assigned = refl; function-without-a-call = refl; named-twice = refl; array-named-twice = refl; lets-of-blocks-count = refl; no-result-in-an-expression = refl; two-types-compared = refl; condition-before-its-block = refl; both-blocks-return = refl; return-not-last = refl; return-without-a-value = refl; return-of-another-type = refl; return-with-a-value = refl; result-dropped = refl; too-many-arguments = refl; main-calls-itself = refl; trap-at-the-last-unit = refl; one-unit-less = refl; no-fuel-for-nothing = refl; no-fuel-for-a-statement = refl; no-fuel-for-its-node = refl; no-room = refl; just-enough = refl; trap-before-full = refl; while-once = refl; while-no-condition = refl; index-below-0 = refl; index-least = refl; index-minus-0 = refl; order-at-the-ends = refl; returns-from-a-loop = refl; and-skips = refl; or-skips = refl; greater-and-less = refl; not-true = refl; and-needs-both = refl }
