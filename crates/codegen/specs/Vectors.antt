@@ -98,6 +98,37 @@ down n = record {
   elements = 0;
 }
 
+-- each argument says itself: the first is evaluated first
+abbrev order : Program
+order = record {
+  functions =
+      record { parameters = 1; lets = 0; body = C.then (C.emit (C.local 0)) (C.then (C.give (C.local 0)) C.end) }
+      ∷ record { parameters = 2; lets = 0; body = C.then (C.give (C.strict sub (C.local 0) (C.local 1))) C.end }
+      ∷ record {
+        parameters = 0;
+        lets = 0;
+        body =
+            C.then (C.emit (C.call 1 (C.more (C.call 0 (C.more (C.number 5) C.none)) (C.more (C.call 0 (C.more (C.number 3) C.none)) C.none)))) C.end;
+      }
+      ∷ [];
+  main = 2;
+  elements = 0;
+}
+
+-- constants of two instructions, the lower part of which is negative where bit 11 is set
+abbrev constants : Program
+constants = record {
+  functions =
+      record {
+        parameters = 0;
+        lets = 0;
+        body = C.then (C.emit (C.number 4095)) (C.then (C.emit (C.number 4096)) (C.then (C.emit (C.number 2147483647)) C.end));
+      }
+      ∷ [];
+  main = 0;
+  elements = 0;
+}
+
 -- memory in which the arrays hold these words
 abbrev holding : List ℕ → ℕ → ℕ
 holding ws a = getD ws ((a - 0x100000) / 4) 0
@@ -138,7 +169,9 @@ pub record Vectors : Type 0 where
   pub f-62 : ends (down 62) [] ≡ gives Exit (62 ∷ []) 1016
   pub f-63 : ends (down 63) [] ≡ gives (Trap 3) [] 582
   pub f-words : length (instructionsOf (down 62)) ≡ 51
+  pub order-runs : ends order [] ≡ gives Exit (5 ∷ 3 ∷ 2 ∷ []) 53
+  pub constants-run : ends constants [] ≡ gives Exit (4095 ∷ 4096 ∷ 2147483647 ∷ []) 20
 
 pub vectors : Vectors
 unfolding answering instructionsOf counts entryFrom functionsFrom function functionBy nearIn clears statement block code codes condition placeOf placesOf passes saves loads short upperOf lowerOf run step ecallOf aluOf condOf reaches apply addW subW mulW negW negative magnitude ltS ltU quotS remS bitOf shlW signExtend
-vectors = record { G-runs = refl; G-words = refl; Z-quiet = refl; Z-one = refl; Z-two = refl; Z-words = refl; f-62 = refl; f-63 = refl; f-words = refl }
+vectors = record { G-runs = refl; G-words = refl; Z-quiet = refl; Z-one = refl; Z-two = refl; Z-words = refl; f-62 = refl; f-63 = refl; f-words = refl; order-runs = refl; constants-run = refl }
