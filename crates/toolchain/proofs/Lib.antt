@@ -1,3 +1,4 @@
 pub mod Asked
 pub mod Held
 pub mod OneRun
+pub mod EndToEnd
