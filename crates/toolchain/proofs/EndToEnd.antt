@@ -170,10 +170,10 @@ module _ (text input : List ℕ) (room : ℕ) (bytes : Below 256 input) (p : Pro
 
     goes-on : (fuel : ℕ) (i : Interpreting text input room fuel) → i .ran .outcome ≡ OutOfFuel →
         (limit : ℕ) × (fuel ≤ costs .C * limit + costs .C0) × (limit ≤ costs .K * fuel + costs .K0) ×
-        ((m : Emulating (image p) input room limit) → (m .ended .status ≡ Limit) × (machineLog m ≡ sourceLog i))
+        ((m : Emulating (image p) input room limit) → Alike Limit i m)
     goes-on fuel i e =
         let r = k .goes-on arrays fuel room fine (sym (source i .outcome) ∙ ap outcomeOf e) in
-        (r .0, r .1, r .2, λ m. (machined m .status ∙ r .3, machine-log m ∙ (r .4 ∙ sym (source-log i))))
+        (r .0, r .1, r .2, λ m. alike fuel (r .0) i m Limit (r .3))
 
     ends-back : (limit : ℕ) (m : Emulating (image p) input room limit) (stop : Status) → (stop ≡ Exit) ⊎ ((t : ℕ) × (stop ≡ Trap t)) → m .ended .status ≡ stop →
         (fuel : ℕ) × ((i : Interpreting text input room fuel) → EndedAs i stop × Alike stop i m)

@@ -1,4 +1,5 @@
 pub mod Asked
 pub mod Held
 pub mod OneRun
+pub mod Blocks
 pub mod EndToEnd

@@ -83,10 +83,10 @@ pub record EndToEnd (text image input : List ℕ) (room : ℕ) : Type 0 where
   -- where `interpret` finishes or traps with t, `emulate` exits or traps with t, under every limit that is large enough, in at most so many steps
   pub ends : (fuel limit : ℕ) (i : Interpreting text input room fuel) (m : Emulating image input room limit) (stop : Status) → EndedAs i stop →
       costs .K * fuelUsed i + costs .K0 ≤ limit → Alike stop i m × (m .ended .steps ≤ costs .K * fuelUsed i + costs .K0)
-  -- where `interpret` is out of fuel, `emulate` is at its limit with the same log, under a limit that the fuel bounds both ways
+  -- where `interpret` is out of fuel, `emulate` is at its limit with the same log and arrays, under a limit that the fuel bounds both ways
   pub goes-on : (fuel : ℕ) (i : Interpreting text input room fuel) → i .ran .outcome ≡ OutOfFuel →
       (limit : ℕ) × (fuel ≤ costs .C * limit + costs .C0) × (limit ≤ costs .K * fuel + costs .K0) ×
-      ((m : Emulating image input room limit) → (m .ended .status ≡ Limit) × (machineLog m ≡ sourceLog i))
+      ((m : Emulating image input room limit) → Alike Limit i m)
   -- where `emulate` exits or traps with t, `interpret` finishes or traps with t, with some fuel
   pub ends-back : (limit : ℕ) (m : Emulating image input room limit) (stop : Status) → (stop ≡ Exit) ⊎ ((t : ℕ) × (stop ≡ Trap t)) → m .ended .status ≡ stop →
       (fuel : ℕ) × ((i : Interpreting text input room fuel) → EndedAs i stop × Alike stop i m)

@@ -1,24 +1,21 @@
 -- `block_words` meets its contract: so far the first words, then what was there.
-use Rattle.word.specs.Bytes.{wordsOfBytes}
-use Rattle.word.proofs.WordBytes.{wordsOfBytes-length, wordsOfBytes-at}
-use lib.Seq.{paste, paste-zero, paste-suc, take-length, drop-length}
+use Rattle.toolchain.proofs.Blocks.{so-far, one-more, all-of-them}
 use lib.ListN.{length, length-set}
 use native.Mathlib.Numerals.{add-one}
 use Prim.Native.Nat.{_-_, _≤_, _+_}
-use mathlib.Core.List.{append-nil}
 use mathlib.Core.Path.{_≡_, refl, sym, _∙_, ap}
 use Rattle.toolchain.proofs.interpret.block_words.Statement.{statement}
 use Rattle.toolchain.proofs.interpret.block_words.Tie as tie
 use native.Mathlib.Omega.{arith}
 
 abbrev Inv-loop : tie.InvT-loop
-Inv-loop input arrays₀ i₀ arrays i = (length arrays ≡ length arrays₀) × (i ≤ length arrays₀) × (arrays ≡ paste arrays₀ 0 (wordsOfBytes input) i)
+Inv-loop input arrays₀ i₀ arrays i = (length arrays ≡ length arrays₀) × (i ≤ length arrays₀) × (arrays ≡ so-far input arrays₀ i)
 
 abbrev μ-loop : tie.MeasureT-loop
 μ-loop input arrays₀ i₀ arrays i = length arrays₀ - i
 
 loop-holds : tie.Need-loop-holds Inv-loop μ-loop
-loop-holds c = (refl, omega arith, paste-zero (c .before .before .args .arrays .now) 0 (wordsOfBytes (c .before .before .args .input .now)))
+loop-holds c = (refl, omega arith, refl)
 
 mul-at : tie.Need-mul-at Inv-loop μ-loop
 mul-at c = omega arith
@@ -60,13 +57,13 @@ loop-less : tie.Need-loop-less Inv-loop μ-loop
 loop-less c = omega arith
 
 loop-again : tie.Need-loop-again Inv-loop μ-loop
-loop-again c = omega arith
+loop-again c = (simp length-set (c .before .before .before .before .before .before .loop .inv .0), omega arith, rw (c .before .before .before .before .before .before .loop .inv .2, add-one (c .before .before .before .before .before .before .loop .i), c .word-of .ensures) (one-more (c .before .before .before .before .before .before .before .before .before .args .input .now) (c .before .before .before .before .before .before .before .before .before .args .arrays .now) (c .before .before .before .before .before .before .loop .i) (omega arith) (omega arith)))
 
 same-length : tie.Need-same-length Inv-loop μ-loop
 same-length c = omega arith
 
 returns : tie.Need-returns Inv-loop μ-loop
-returns c = omega arith
+returns c = c .before .loop .inv .2 ∙ all-of-them (c .before .before .before .before .args .input .now) (c .before .before .before .before .args .arrays .now) (c .before .loop .i) (omega arith) (omega arith)
 
 pub block-words-spec : {M : Type 1} → statement M
 block-words-spec =
