@@ -1,5 +1,6 @@
 -- Claims 1 and 2 of `check`: document 01 §1's answers to a text, and the place that a refusal carries.
 use Prim.Native.Nat.{ℕ, _≤_}
+use mathlib.Core.Bool.{Bool, true, false}
 use mathlib.Core.Path.{_≡_}
 use mathlib.Core.List.{List}
 use lib.ListN.{length}
@@ -34,6 +35,11 @@ pub record Enough (w : Work) : Type 0 where
   pub for-tree : tree-room ≤ w .tree
   pub for-starts : starts-room ≤ w .starts
   pub for-core : core-room ≤ w .core
+
+-- a test's answer, of what it tests
+abbrev pub Tells : Bool → Type 0 → Type 0
+Tells true P = P
+Tells false P = P → ⊥
 
 -- Document 01 §1. A refusal carries a place in the text: of an unreadable text that of the token at fault, or the text's length (`treeOf`);
 -- of a broken rule that which `elaborate` gives.

@@ -12,6 +12,7 @@ use emulator::run::Ended;
 use emulator::run::run;
 use processor::Status;
 
+pub mod work; // working room
 pub mod check; // document 01 §1: the answer to a text
 pub mod interpret; // document 01 §5: the run of a text
 pub mod compile; // the image of a text
