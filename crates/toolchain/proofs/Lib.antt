@@ -3,3 +3,5 @@ pub mod Held
 pub mod OneRun
 pub mod Blocks
 pub mod EndToEnd
+pub mod Answering
+pub mod Running

@@ -36,10 +36,10 @@ pub record Enough (w : Work) : Type 0 where
   pub for-starts : starts-room ≤ w .starts
   pub for-core : core-room ≤ w .core
 
--- a test's answer, of what it tests
-abbrev pub Tells : Bool → Type 0 → Type 0
-Tells true P = P
-Tells false P = P → ⊥
+-- whether some of it is too short
+abbrev pub Lacks : Bool → Work → Type 0
+Lacks true w = Enough w → ⊥
+Lacks false w = Enough w
 
 -- Document 01 §1. A refusal carries a place in the text: of an unreadable text that of the token at fault, or the text's length (`treeOf`);
 -- of a broken rule that which `elaborate` gives.

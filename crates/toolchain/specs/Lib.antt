@@ -3,3 +3,4 @@ pub mod Checking
 pub mod Interpretation
 pub mod Compilation
 pub mod EndToEnd
+pub mod Accepting

@@ -1,7 +1,7 @@
--- `enough` meets its contract, test by test.
+-- `lacking` meets its contract, test by test.
 use Rattle.toolchain.specs.Checking.{Enough}
-use Rattle.toolchain.proofs.work.enough.Statement.{statement}
-use Rattle.toolchain.proofs.work.enough.Tie as tie
+use Rattle.toolchain.proofs.work.lacking.Statement.{statement}
+use Rattle.toolchain.proofs.work.lacking.Tie as tie
 use borrow.Author.Needs.{needs}
 use native.Mathlib.Omega.{arith}
 
@@ -20,5 +20,5 @@ returns-4 c = search needs
 returns-5 : tie.Need-returns-5
 returns-5 c = search needs
 
-pub enough-spec : {M : Type 1} → statement M
-enough-spec = tie.close (tie.spec returns returns-2 returns-3 returns-4 returns-5)
+pub lacking-spec : {M : Type 1} → statement M
+lacking-spec = tie.close (tie.spec returns returns-2 returns-3 returns-4 returns-5)
