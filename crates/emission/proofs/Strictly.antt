@@ -29,8 +29,8 @@ use Rattle.emission.specs.declared.Immediate.{Immediate}
 use Rattle.emission.specs.declared.Immediate.the-variants as I
 use Rattle.emission.specs.Tape.{Puts, Emits}
 use Rattle.emission.specs.Macros.{strictOf, worked, related, immediately, EmitsFor, EmitsOne, EmitsAny}
-use Rattle.emission.proofs.Laws as L
-use Rattle.emission.proofs.Laws.{one, last, after}
+use Rattle.emission.proofs.Laws.{one, after}
+use Rattle.emission.proofs.Skips.{registers}
 
 -- Numbers that miss every arm of a match: none of those below n.
 abbrev pub Misses : ℕ → ℕ → Type 0
@@ -62,9 +62,6 @@ is-long o n e = ap (λ (b : Bool). pick b (with-it o n) none) (sym e)
 
 ops : {o : Alu} {t m n a b c : ℕ} → t ≡ a → m ≡ b → n ≡ c → Op o t m n ≡ Op o a b c
 ops {o} {t} {m} {n} {a} {b} {c} f g h = ap (λ (z : ℕ). Op o z m n) f ∙ ap (λ (z : ℕ). Op o a z n) g ∙ ap (λ (z : ℕ). Op o a b z) h
-
-registers : {c : Cond} {m n a b : ℕ} {x y : ℕ} → m ≡ a → n ≡ b → x ≡ y → Branch c m n x ≡ Branch c a b y
-registers {c} {m} {n} {a} {b} {x} {y} f g h = ap (λ (z : ℕ). Branch c z n x) f ∙ ap (λ (z : ℕ). Branch c a z x) g ∙ ap (λ (z : ℕ). Branch c a b z) h
 
 pub plain-laid : (d : ℕ) {o : Alu} {t m n at r₁ r₂ : ℕ} {ws ws₁ ws₂ : List ℕ} → t ≡ number (target d) → Emits (keep d) at ws ws₁ r₁ → Puts (Op o t m n) r₁ ws₁ ws₂ r₂ →
     EmitsFor (λ p q. op o (target d) p q ∷ keep d) m n at ws ws₂ r₂
