@@ -100,11 +100,7 @@ pub fn returning(out: &mut [u32], at: usize, d: u32) -> usize
 {
     let n = registers(d);
     let last = loads(out, at, n);
-    put(
-        out,
-        last,
-        Instr::OpImm(Alu::Add, SP, SP, FRAME_BACK),
-    )
+    put(out, last, Instr::OpImm(Alu::Add, SP, SP, FRAME_BACK))
 }
 
 // A call of the function at position `to`, once its arguments are passed and temporaries are saved.
