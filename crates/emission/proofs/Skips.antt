@@ -1,20 +1,18 @@
 -- Jumps, loops and conditions are their definitions', case by case.
-use Prim.Native.Nat.{ℕ, zero, suc, _+_, _-_, _*_, _≤_, _<_}
+use Prim.Native.Nat.{ℕ, zero, suc, _+_, _-_, _≤_, _<_}
 use native.Mathlib.Omega.{arith}
 use mathlib.Core.Path.{_≡_, refl, sym, ap, _∙_, subst, subst⁻¹}
 use mathlib.Core.Bool.{Bool, true, false}
 use mathlib.Core.List.{List, [], _∷_, _++_, append-assoc}
 use lib.ListN.{length, length-append}
-use Rattle.word.specs.Choice.{pick}
 use Rattle.processor.specs.declared.Cond.{Cond}
 use Rattle.processor.specs.declared.Cond.the-variants.{Ne}
-use Rattle.processor.specs.declared.Instr.{Instr}
 use Rattle.processor.specs.declared.Instr.the-variants.{Branch, Jal}
-use Rattle.symbolic.specs.Symbolic.{Reg, number, x0, answer, Instruction, branch, jump, jumpBack}
-use Rattle.symbolic.specs.Real.{real, distance}
+use Rattle.symbolic.specs.Symbolic.{Reg, number, x0, answer, Instruction, jump, jumpBack}
+use Rattle.symbolic.specs.Real.{distance}
 use Rattle.codegen.specs.Places as P
 use Rattle.codegen.specs.Places.{source, fetch}
-use Rattle.codegen.specs.Operators.{opposite, skip, sense, testing, comparing, always, left, right}
+use Rattle.codegen.specs.Operators.{opposite, skip, sense, testing, comparing, always}
 use Rattle.emission.specs.Tape.{Puts, Emits}
 use Rattle.emission.specs.Macros.{EmitsFor}
 use Rattle.emission.proofs.Laws.{put-at, none, one, last-if, after, after-if, filled}

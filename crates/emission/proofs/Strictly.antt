@@ -1,21 +1,20 @@
 -- The strict operators are their definitions', case by case.
-use Prim.Native.Nat.{ℕ, zero, suc, _+_, _-_, _*_, _≤_, _<_}
+use Prim.Native.Nat.{ℕ, zero, suc, _+_, _-_, _≤_}
 use native.Mathlib.Omega.{arith}
-use mathlib.Core.Path.{_≡_, refl, sym, ap, _∙_, subst, subst⁻¹}
+use mathlib.Core.Path.{_≡_, refl, sym, ap, _∙_, subst}
 use mathlib.Core.Bool.{Bool, true, false}
 use mathlib.Core.List.{List, [], _∷_, _++_}
 use mathlib.Core.Option.{Option, none, some}
-use lib.ListN.{length, getD, List·getD-eq-default}
+use lib.ListN.{List·getD-eq-default}
 use Rattle.word.specs.Choice.{pick}
 use Rattle.processor.specs.declared.Alu.{Alu}
 use Rattle.processor.specs.declared.Alu.the-variants.{Add}
 use Rattle.processor.specs.declared.Cond.{Cond}
 use Rattle.processor.specs.declared.Cond.the-variants.{Ne}
-use Rattle.processor.specs.declared.Instr.{Instr}
 use Rattle.processor.specs.declared.Instr.the-variants.{Branch, Jal, Op, OpImm}
 use Rattle.language.specs.Tree.{Strict, eq, ne, lt, le, gt, ge, add, sub, mul, div, rem}
-use Rattle.symbolic.specs.Symbolic.{Reg, number, x0, Instruction, branch, jump, call, op, opi}
-use Rattle.symbolic.specs.Real.{real, distance}
+use Rattle.symbolic.specs.Symbolic.{Reg, number, x0, branch, jump, call, op, opi}
+use Rattle.symbolic.specs.Real.{distance}
 use Rattle.codegen.specs.Places as P
 use Rattle.codegen.specs.Places.{short, source, fetch, target, keep}
 use Rattle.codegen.specs.Operators as O

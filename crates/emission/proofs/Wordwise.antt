@@ -1,10 +1,10 @@
 -- Words become bytes one after the other.
-use Prim.Native.Nat.{ℕ, zero, suc, _+_, _-_, _*_, _≤_, _<_}
+use Prim.Native.Nat.{ℕ, suc, _+_, _*_, _≤_, _<_}
 use native.Mathlib.Omega.{arith}
-use mathlib.Core.Path.{_≡_, refl, sym, ap, _∙_, subst}
+use mathlib.Core.Path.{_≡_, refl, sym, ap, _∙_}
 use mathlib.Core.List.{List, [], _∷_, _++_, append-assoc}
-use lib.ListN.{length, set, take, drop, getD, length-append, length-take, length-drop}
-use lib.Seq.{sets, sets-eq, take-suc, take-at, drop-at, drop-drop, length-take-le, drop-append-add}
+use lib.ListN.{length, set, take, drop, getD, length-append, length-drop}
+use lib.Seq.{sets, sets-eq, take-suc, take-at, drop-drop, length-take-le, drop-append-add}
 use Rattle.word.specs.Bytes.{byte₀, byte₁, byte₂, byte₃, bytesOf, bytesOfWords}
 use Rattle.symbolic.specs.Symbolic.{Instruction}
 use Rattle.symbolic.specs.Real.{wordsFrom, imageOf}

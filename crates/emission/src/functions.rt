@@ -1,5 +1,4 @@
 // What a function begins and ends with, and what statements have besides their expressions.
-ghost use mathlib.Core.Path.{_≡_};
 ghost use mathlib.Core.List.{_∷_, []};
 ghost use Prim.Native.Nat.{_+_, _≤_};
 ghost use Rattle.processor.specs.declared.Alu.the-variants.{Add as AddOf};

@@ -2,8 +2,8 @@
 ghost use mathlib.Core.Path.{_≡_};
 ghost use mathlib.Core.List.{_∷_, [], _++_};
 ghost use Prim.Native.Nat.{_+_, _*_, _%_, _^_, _≤_, _<_};
-ghost use Rattle.symbolic.specs.Symbolic.{number, scratch, sp, lw, sw};
-ghost use Rattle.codegen.specs.Places.{short as shortOf, upperOf, lowerOf, constantTo, source as sourceOf, fetch as fetchOf, target as targetOf, keep as keepOf, settle as settleOf, move as moveOf, bring as bringOf, temporary};
+ghost use Rattle.symbolic.specs.Symbolic.{number, sp, lw, sw};
+ghost use Rattle.codegen.specs.Places.{short as shortOf, upperOf, lowerOf, constantTo, source as sourceOf, fetch as fetchOf, target as targetOf, keep as keepOf, settle as settleOf, move as moveOf, bring as bringOf};
 ghost use Rattle.emission.specs.Tape.{Emits};
 ghost use Rattle.emission.specs.Macros.{placed, EmitsAt, EmitsOne};
 use crate::Place;
