@@ -9,3 +9,6 @@ pub mod Scanning
 pub mod Elaborating
 pub mod Lengths
 pub mod Stating
+pub mod Moving
+pub mod Heading
+pub mod Storing

@@ -85,7 +85,7 @@ module _ {text : List ℕ} {gs : List Global} {ls : List Local} {n : ℕ} {ws : 
           sets core q (k ∷ a ∷ 0 ∷ n ∷ 0 ∷ 0 ∷ 0 ∷ rest ∷ itemsWords (code (t .value .expr) 0 []) []) ≡ sets core q (k ∷ a ∷ 0 ∷ m ∷ 0 ∷ 0 ∷ 0 ∷ 4 * m ∷ itemsWords (code (t .value .expr) 0 []) [])
       same m e f = rw (e, f) refl
 
-int-type : typeOf 1 ≡ int
+pub int-type : typeOf 1 ≡ int
 unfolding typeOf
 int-type = refl
 
@@ -237,7 +237,10 @@ entered-at text locals l at size ty slot h =
     ) refl
 
 pub entered : {locals locals′ : List ℕ} (l at size ty slot : ℕ) → 4 * l + 4 ≤ length locals → locals′ ≡ sets locals (4 * l) (at ∷ size ∷ ty ∷ slot ∷ []) → Enters locals l at size ty slot locals′
-entered {locals} l at size ty slot h e = record { is = λ text. ap (λ (w : List ℕ). localsIn text w (l + 1)) e ∙ entered-at text locals l at size ty slot h }
+entered {locals} l at size ty slot h e = record {
+  is = λ text. ap (λ (w : List ℕ). localsIn text w (l + 1)) e ∙ entered-at text locals l at size ty slot h;
+  before = λ i k. ap (λ (w : List ℕ). getD w i 0) e ∙ get-before locals (4 * l) i (at ∷ size ∷ ty ∷ slot ∷ []) k;
+}
 
 module _ {text tree ws locals : List ℕ} {g l i : ℕ} (at size : ℕ) (f : FindsGlobal text tree ws g (part text at size) i) where
   pub named-global : (i ≡ 0 → ⊥) → Freshly text (globalsIn text tree ws g) locals l at size false
