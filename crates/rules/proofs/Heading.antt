@@ -50,3 +50,14 @@ module _ {tree : List ℕ} {g : ℕ} {locals : List ℕ} {l count : ℕ} {types 
 
   pub header-room : HeaderRoom tree g l types starts core p q
   header-room = record { after = room-on 8 (p + 8) (q + 8) (omega arith) refl refl (s .all .room .locals) refl refl refl; header = omega (arith, s .all .room .for-core, s .whole) }
+
+  -- a block k words on, with the locals that are then visible
+  pub block-room : {locals′ : List ℕ} {count′ : ℕ} {types′ starts′ core′ : List ℕ} (k j i : ℕ) → k ≤ 8 + rest → j ≡ p + k → i ≡ q + k → l ≤ count′ → count′ ≤ 64 → length locals′ ≡ length locals → length types′ ≡ length types → length starts′ ≡ length starts → length core′ ≡ length core →
+      BlockRoom tree g locals′ l count′ types′ starts′ core′ j i
+  block-room k j i h ej ei a b el et es ec = record {
+    room = room-on k j i h ej ei (s .all .room .locals) et es ec;
+    for-locals = omega (arith, s .all .for-locals, el);
+    visible = a;
+    few = b;
+    core-far = omega (arith, s .all .core-far, ej, ei);
+  }

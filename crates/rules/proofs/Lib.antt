@@ -12,3 +12,10 @@ pub mod Stating
 pub mod Moving
 pub mod Heading
 pub mod Storing
+pub mod Running
+pub mod Extents
+pub mod Arms
+pub mod Testing
+pub mod Nesting
+pub mod Blocking
+pub mod Ending

@@ -51,11 +51,11 @@ pub stopped : {A B : Type 0} {m : Ruled A} {at : Place} (f : A → Ruled B) → 
 unfolding _>>=_
 stopped f e = ap (λ n. n >>= f) e
 
-want-fine : (t : Ty) (at : Place) (v : Typed) {u : Ty} {b : Bool} → v .type ≡ u → b ≡ sameTy t u → b ≡ true → want t at v ≡ keeps (v .expr)
+pub want-fine : (t : Ty) (at : Place) (v : Typed) {u : Ty} {b : Bool} → v .type ≡ u → b ≡ sameTy t u → b ≡ true → want t at v ≡ keeps (v .expr)
 unfolding want need _>>=_
 want-fine t at v e q f = rw (e, ← q, f) refl
 
-want-wrong : (t : Ty) (at : Place) (v : Typed) {u : Ty} {b : Bool} → v .type ≡ u → b ≡ sameTy t u → b ≡ false → want t at v ≡ breaks at
+pub want-wrong : (t : Ty) (at : Place) (v : Typed) {u : Ty} {b : Bool} → v .type ≡ u → b ≡ sameTy t u → b ≡ false → want t at v ≡ breaks at
 unfolding want need _>>=_
 want-wrong t at v e q f = rw (e, ← q, f) refl
 
@@ -217,7 +217,7 @@ some-result res h = rw (ne-eqb res 0 h) refl
 
 -- Declaring a local
 
-same-locals : (text ws us : List ℕ) (l : ℕ) → ((i : ℕ) → i < 4 * l → getD us i 0 ≡ getD ws i 0) → localsIn text us l ≡ localsIn text ws l
+pub same-locals : (text ws us : List ℕ) (l : ℕ) → ((i : ℕ) → i < 4 * l → getD us i 0 ≡ getD ws i 0) → localsIn text us l ≡ localsIn text ws l
 unfolding localsIn localAt
 same-locals text ws us zero h = refl
 same-locals text ws us (suc l) h =

@@ -9,17 +9,20 @@ use lib.Dec.{eqb}
 use lib.ListN.{length}
 use lib.Seq.{sets}
 use Rattle.word.specs.Choice.{pick}
-use Rattle.language.specs.Tree.{Ty, int}
+use Rattle.language.specs.Tree.{Ty, int, bool}
 use Rattle.language.specs.Tree as T
 use Rattle.language.specs.Core as C
-use Rattle.language.specs.Rules.{Ruled, keeps, breaks, Global, Scope, globalOf, isFunction, andThen, most-locals, stmt, block, endsInReturn}
+use Rattle.language.specs.Rules.{Ruled, keeps, breaks, Global, Scope, globalOf, isFunction, andThen, _>>=_, Local, most-locals, want, expr, stmt, block, isReturn, endsInReturn}
 use Rattle.grammar.specs.Flat as G
+use Rattle.flat.specs.Items.{code}
 use Rattle.flat.specs.Statements.{flats}
-use Rattle.flat.specs.Words.{blockWords, blockLength, count}
+use Rattle.flat.specs.Words.{itemsWords, blockWords, blockLength, count}
 use Rattle.rules.specs.Tables.{word, part}
 use Rattle.rules.specs.Named.{NamedExpr, NamedArgs, NamedStmt, NamedBlock}
 use Rattle.rules.specs.Scan.{Operand, Node, callNode}
 use Rattle.rules.specs.Post.{Room, HeaderRoom, scopeOf, StmtCase, most-places}
+use Rattle.rules.specs.declared.Given.{Given}
+use Rattle.rules.specs.declared.Given.the-variants as Is
 use Rattle.rules.specs.declared.Step.{Step}
 use Rattle.rules.specs.declared.Step.the-variants as To
 use Rattle.rules.specs.declared.Counted.{Counted}
@@ -91,11 +94,28 @@ pub record Runs (text : List ℕ) (globals : List Global) (locals : List ℕ) (l
 unfoldable pub holdsBlocks : ℕ → Bool
 holdsBlocks k = pick (eqb k 2) true (pick (eqb k 3) true (eqb k 8))
 
--- a statement at ws, if it has blocks or if it has none
-pub record Statement (blocks : Bool) (text : List ℕ) (globals : List Global) (locals : List ℕ) (l count : ℕ) (result : Option Ty) (ws : List ℕ) (q : ℕ) (core : List ℕ) (r : Step) (locals′ core′ : List ℕ) : Type 0 where
-  pub by : (s : T.Stmt) (more : List ℕ) → ws ≡ G.stmtWords s more → NamedStmt text s → holdsBlocks (word ws 0) ≡ blocks →
-      StmtCase globals text (stmt globals result s (scopeOf globals text locals l count)) q core r locals′ core′
-  pub moves : Moves l count locals r locals′
+-- whatever statement the words at ws are
+pub record Statement (text : List ℕ) (globals : List Global) (locals : List ℕ) (l count : ℕ) (result : Option Ty) (ws : List ℕ) (q : ℕ) (core : List ℕ) (r : Step) (locals′ core′ : List ℕ) : Type 0 where
+  pub by : (s : T.Stmt) (more : List ℕ) → ws ≡ G.stmtWords s more → NamedStmt text s → StmtCase globals text (stmt globals result s (scopeOf globals text locals l count)) q core r locals′ core′
+
+-- what a condition gives: an expression of the core, written from q on, in as many items as the tree's
+pub record Tested (e : T.Expr) (m : Ruled C.Expr) (q : ℕ) (core core′ : List ℕ) : Type 0 where
+  pub value : C.Expr
+  pub is : m ≡ keeps value
+  pub there : core′ ≡ sets core q (itemsWords (code value 0 []) [])
+  pub many : length (code value 0 []) ≡ G.size e
+
+abbrev pub TestCase : T.Expr → Ruled C.Expr → ℕ → List ℕ → Given → List ℕ → Type 0
+TestCase e m q core (Is.Type ty) core′ = Tested e m q core core′
+TestCase e m q core (Is.Broken at) core′ = m ≡ breaks at
+
+-- "conditions take bools": n items at ws
+pub record Conditions (text : List ℕ) (globals : List Global) (locals : List Local) (at n : ℕ) (ws : List ℕ) (q : ℕ) (core : List ℕ) (r : Given) (core′ : List ℕ) : Type 0 where
+  pub by : (e : T.Expr) (more : List ℕ) → ws ≡ G.exprWords e more → n ≡ G.size e → NamedExpr text e → TestCase e (expr globals locals e >>= want bool at) q core r core′
+
+-- the header of a statement with blocks
+unfoldable pub nestWords : ℕ → ℕ → ℕ → ℕ → ℕ → ℕ → List ℕ
+nestWords k size n s t rest = pick (eqb k 3) (3 ∷ 0 ∷ 0 ∷ n ∷ 0 ∷ s ∷ t ∷ rest ∷ []) (2 ∷ size ∷ 0 ∷ n ∷ 0 ∷ s ∷ t ∷ rest ∷ [])
 
 -- Blocks
 
@@ -122,6 +142,9 @@ pub record Blocks (text : List ℕ) (globals : List Global) (locals : List ℕ) 
   pub kept : (i : ℕ) → i < 4 * l → word locals′ i ≡ word locals i
   pub bounded : CountCase counted r
 
--- whether they end in return
+-- whether a statement is a return, and whether n statements end in one
+pub record Returns (ws : List ℕ) (r : Bool) : Type 0 where
+  pub by : (s : T.Stmt) (more : List ℕ) → ws ≡ G.stmtWords s more → r ≡ isReturn s
+
 pub record Ends (n : ℕ) (ws : List ℕ) (r : Bool) : Type 0 where
   pub by : (b : T.Block) (more : List ℕ) → ws ≡ G.blockWords b more → n ≡ G.count b → r ≡ endsInReturn b

@@ -9,6 +9,10 @@ pub mod expression; // an expression, and its type
 pub mod head; // headers of statements, in the tree and in the core
 pub mod single; // statements with one expression and no block
 pub mod store; // a store to an element
+pub mod run; // a call as a statement
+pub mod simple; // statements with no block
+pub mod blocks; // blocks, and statements that have some
+pub mod endings; // whether a block ends in return
 
 // What a part of the tree gives: a number, or the place of a broken rule.
 pub enum Out {
