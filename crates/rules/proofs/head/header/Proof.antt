@@ -3,8 +3,8 @@ use native.Mathlib.Omega.{arith}
 use native.Mathlib.Numerals.{unary-clauses}
 use mathlib.Core.Path.{refl}
 use lib.ListN.{length-set}
-use Rattle.rules.proofs.single.header.Statement.{statement}
-use Rattle.rules.proofs.single.header.Tie as tie
+use Rattle.rules.proofs.head.header.Statement.{statement}
+use Rattle.rules.proofs.head.header.Tie as tie
 use borrow.Author.Needs.{needs}
 
 mul-core : tie.Need-mul-core
