@@ -1,2 +1,5 @@
 pub mod Names
+pub mod Standing
 pub mod Few
+pub mod Declaring
+pub mod Starting
