@@ -239,11 +239,11 @@ pub declaring-start : (text tree : List ℕ) (words : ℕ) (ws : List ℕ) → D
 unfolding globalsIn
 declaring-start text tree words ws = record { by = λ is s. record { rest = is; stands = s; is = refl }; few = record { arrays = omega arith; elements = omega arith; functions = omega arith } }
 
-no-more : {text tree : List ℕ} {words p : ℕ} → Standing text tree words p [] → p < words → ⊥
+pub no-more : {text tree : List ℕ} {words p : ℕ} → Standing text tree words p [] → p < words → ⊥
 unfolding G.itemsWords
 no-more s l = omega (arith, s .size, l)
 
-some-more : {text tree : List ℕ} {words p : ℕ} (i : Item) (is : List Item) → Standing text tree words p (i ∷ is) → words ≤ p → ⊥
+pub some-more : {text tree : List ℕ} {words p : ℕ} (i : Item) (is : List Item) → Standing text tree words p (i ∷ is) → words ≤ p → ⊥
 unfolding G.itemsWords G.itemWords
 some-more (array at x n) is s l = omega (arith, s .size, l)
 some-more (function at x ps r b) is s l = omega (arith, s .size, l)

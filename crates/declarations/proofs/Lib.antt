@@ -3,3 +3,7 @@ pub mod Standing
 pub mod Few
 pub mod Declaring
 pub mod Starting
+pub mod Programs
+pub mod Taking
+pub mod Filling
+pub mod Together

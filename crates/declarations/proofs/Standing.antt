@@ -148,10 +148,13 @@ pub after-function : (tree : List ℕ) (p : ℕ) {k n b : ℕ} → k ≡ word tr
 unfolding nextOf
 after-function tree p {k} e h en eb = rw (← e, ne-eqb k 0 h, en, eb) refl
 
-pub further : (tree : List ℕ) (p : ℕ) {q : ℕ} → q ≡ nextOf tree p → p < q
+pub eight-further : (tree : List ℕ) (p : ℕ) → p + 8 ≤ nextOf tree p
 unfolding nextOf
-further tree p e = rw e (go (eqb (word tree p) 0))
+eight-further tree p = go (eqb (word tree p) 0)
   where
-    go : (b : Bool) → p < pick b (p + 8) (p + 8 + 3 * word tree (p + 3) + word tree (p + 6))
+    go : (b : Bool) → p + 8 ≤ pick b (p + 8) (p + 8 + 3 * word tree (p + 3) + word tree (p + 6))
     go true = omega arith
     go false = omega arith
+
+pub further : (tree : List ℕ) (p : ℕ) {q : ℕ} → q ≡ nextOf tree p → p < q
+further tree p e = rw e (omega (arith, eight-further tree p))

@@ -2,6 +2,7 @@
 // core program, in working room that the caller lends, or the place of a broken rule.
 pub mod globals; // arrays and functions by name
 pub mod entry; // `main`
+pub mod parameters; // the parameters of a function
 
 // How many arrays, elements in all and functions are declared; or the place of a broken rule.
 pub enum Tally {
@@ -12,5 +13,23 @@ pub enum Tally {
 // The number of `main`, or the place of a broken rule.
 pub enum Start {
     Function(u32),
+    Broken(usize),
+}
+
+// The rules are kept, or the place of a broken one.
+pub enum Rule {
+    Kept,
+    Broken(u32),
+}
+
+// How many words of the core there are up to here and how many functions; or the place of a broken rule.
+pub enum Reached {
+    At(usize, usize),
+    Broken(u32),
+}
+
+// How many words the core program has, or the place of a broken rule.
+pub enum Elaborated {
+    Kept(usize),
     Broken(usize),
 }
