@@ -2,25 +2,24 @@
 use mathlib.Core.Path.{_≡_, refl, sym, ap, subst, _∙_}
 use mathlib.Core.Bool.{Bool, true, false}
 use mathlib.Core.List.{List, [], _∷_}
-use mathlib.Core.Option.{Option, none, some}
+use mathlib.Core.Option.{Option}
 use Prim.Native.Nat.{ℕ, zero, suc, _+_, _*_, _≤_, _<_}
 use native.Mathlib.Numerals.{add-one}
-use native.Mathlib.Nat.{add-zero}
 use native.Mathlib.Omega.{arith}
 use lib.Dec.{eqb, ltb, leb}
-use lib.ListN.{length, getD, drop}
+use lib.ListN.{length, getD}
 use lib.Seq.{sets}
 use borrow.Author.Tests.{ne-eqb, leb-true, ltb-true, le-leb, lt-leb, lt-ltb, le-ltb}
 use Rattle.word.specs.Choice.{pick, both}
 use Rattle.language.specs.Tree.{Place, Name, Ty, Param, Item, array, function}
 use Rattle.language.specs.Tree as T
-use Rattle.language.specs.Rules.{Ruled, keeps, breaks, _>>=_, _>>_, need, absent, Thing, anArray, aFunction, Global, globalOf, Declared, nothing-declared, types, declare, declareAll}
+use Rattle.language.specs.Rules.{Ruled, keeps, breaks, _>>=_, _>>_, need, absent, Thing, anArray, aFunction, Global, globalOf, Declared, nothing-declared, types, declare, declareAll, most-elements, most-arrays, most-elements-in-all, most-functions, most-parameters}
 use Rattle.grammar.specs.Flat as G
-use Rattle.rules.specs.Tables.{word, part, resultOf, typesFrom, thingAt, globalAt, globalsIn}
+use Rattle.rules.specs.Tables.{word, part, typesFrom, thingAt, globalAt, globalsIn}
 use Rattle.rules.specs.Post.{FindsGlobal, globalEntry}
 use Rattle.rules.proofs.Stacks.{get-before, get-inside}
 use Rattle.rules.proofs.Stating.{went, stopped}
-use Rattle.declarations.specs.Post.{Standing, nextOf, nameAt, isNew, arrayFits, functionFits, globalFrom, Adds, declaredIn, Few, FewIn, DeclareCase, Declares, DeclaresAll}
+use Rattle.declarations.specs.Post.{Standing, nextOf, nameAt, isNew, arrayFits, functionFits, globalFrom, Adds, declaredIn, Few, Declares, DeclaresAll}
 use Rattle.declarations.specs.declared.Tally.{Tally}
 use Rattle.declarations.specs.declared.Tally.the-variants as In
 use Rattle.declarations.proofs.Standing as S
@@ -107,43 +106,43 @@ module _ (a e n : ℕ) where
   unfolding arrayFits
   too-small h = rw (lt-leb 1 n h) refl
 
-  pub too-large : 4096 < n → false ≡ arrayFits a e n
+  pub too-large : most-elements < n → false ≡ arrayFits a e n
   unfolding arrayFits
-  too-large h = rw (lt-leb n 4096 h) (go (leb 1 n) (both (ltb a 64) (leb (e + n) 16384)))
+  too-large h = rw (lt-leb n most-elements h) (go (leb 1 n) (both (ltb a most-arrays) (leb (e + n) most-elements-in-all)))
     where
       go : (b c : Bool) → false ≡ both (both b false) c
       go true c = refl
       go false c = refl
 
-  pub too-many-arrays : 64 ≤ a → false ≡ arrayFits a e n
+  pub too-many-arrays : most-arrays ≤ a → false ≡ arrayFits a e n
   unfolding arrayFits
-  too-many-arrays h = rw (le-ltb a 64 h) (go (both (leb 1 n) (leb n 4096)))
+  too-many-arrays h = rw (le-ltb a most-arrays h) (go (both (leb 1 n) (leb n most-elements)))
     where
       go : (b : Bool) → false ≡ both b false
       go true = refl
       go false = refl
 
-  pub in-all : {b : Bool} → 1 ≤ n → n ≤ 4096 → a < 64 → b ≡ leb (e + n) 16384 → b ≡ arrayFits a e n
+  pub in-all : {b : Bool} → 1 ≤ n → n ≤ most-elements → a < most-arrays → b ≡ leb (e + n) most-elements-in-all → b ≡ arrayFits a e n
   unfolding arrayFits
-  in-all h k l q = rw (le-leb 1 n h, le-leb n 4096 k, lt-ltb a 64 l) q
+  in-all h k l q = rw (le-leb 1 n h, le-leb n most-elements k, lt-ltb a most-arrays l) q
 
-  pub array-below : {t : Bool} → t ≡ arrayFits a e n → t ≡ true → (a < 64) × (e + n ≤ 16384)
+  pub array-below : {t : Bool} → t ≡ arrayFits a e n → t ≡ true → (a < most-arrays) × (e + n ≤ most-elements-in-all)
   unfolding arrayFits
   array-below h q =
-      let b = both-true (ltb a 64) (both-true (both (leb 1 n) (leb n 4096)) (sym h ∙ q) .1) in
-      (ltb-true a 64 (b .0), leb-true (e + n) 16384 (b .1))
+      let b = both-true (ltb a most-arrays) (both-true (both (leb 1 n) (leb n most-elements)) (sym h ∙ q) .1) in
+      (ltb-true a most-arrays (b .0), leb-true (e + n) most-elements-in-all (b .1))
 
-pub too-many-functions : (f n : ℕ) → 256 ≤ f → false ≡ functionFits f n
+pub too-many-functions : (f n : ℕ) → most-functions ≤ f → false ≡ functionFits f n
 unfolding functionFits
-too-many-functions f n h = rw (le-ltb f 256 h) refl
+too-many-functions f n h = rw (le-ltb f most-functions h) refl
 
-pub few-parameters : (f n : ℕ) {b : Bool} → f < 256 → b ≡ leb n 8 → b ≡ functionFits f n
+pub few-parameters : (f n : ℕ) {b : Bool} → f < most-functions → b ≡ leb n most-parameters → b ≡ functionFits f n
 unfolding functionFits
-few-parameters f n h q = rw (lt-ltb f 256 h) q
+few-parameters f n h q = rw (lt-ltb f most-functions h) q
 
-pub function-below : (f n : ℕ) {t : Bool} → t ≡ functionFits f n → t ≡ true → f < 256
+pub function-below : (f n : ℕ) {t : Bool} → t ≡ functionFits f n → t ≡ true → f < most-functions
 unfolding functionFits
-function-below f n h q = ltb-true f 256 (both-true (ltb f 256) (sym h ∙ q) .0)
+function-below f n h q = ltb-true f most-functions (both-true (ltb f most-functions) (sym h ∙ q) .0)
 
 array-few : {a e f : ℕ} (n : ℕ) → Few a e f → arrayFits a e n ≡ true → Few (a + 1) (e + n) f
 unfolding arrayFits

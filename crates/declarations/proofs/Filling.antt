@@ -1,23 +1,20 @@
 -- All functions, one item after the other: those done are in the core's two rows, and what is left gives the rest.
 use mathlib.Core.Path.{_≡_, refl, sym, ap, subst, _∙_}
 use mathlib.Core.List.{List, [], _∷_, _++_, append-assoc, append-nil}
-use mathlib.Core.Option.{Option}
-use Prim.Native.Nat.{ℕ, zero, suc, _+_, _*_, _≤_, _<_}
+use Prim.Native.Nat.{ℕ, _+_, _*_, _≤_, _<_}
 use native.Mathlib.Omega.{arith}
-use lib.Dec.{eqb}
 use lib.ListN.{length, length-append}
 use lib.Seq.{sets}
 use borrow.Author.Tests.{ne-eqb}
-use Rattle.word.specs.Choice.{pick}
-use Rattle.language.specs.Tree.{Place, Name, Ty, Param, Item, array, function}
-use Rattle.language.specs.Tree as T
+use Rattle.language.specs.Tree.{Place, Item, array, function}
 use Rattle.language.specs.Core as C
-use Rattle.language.specs.Rules.{Ruled, keeps, breaks, _>>=_, Global, functionFrom, functionsFrom}
+use Rattle.language.specs.Rules.{Ruled, keeps, breaks, _>>=_, Global, functionsFrom, most-functions}
 use Rattle.grammar.specs.Flat as G
+use Rattle.grammar.specs.Flat.{tree-room}
 use Rattle.flat.specs.Words.{entries, bodies, entry}
 use Rattle.rules.specs.Tables.{word}
 use Rattle.rules.proofs.Stating.{went, stopped}
-use Rattle.declarations.specs.Post.{Standing, nextOf, bodyOf, entryOf, Made, Makes, functionCount, FewParameters, PassCase, Passes, Filled, Fills}
+use Rattle.declarations.specs.Post.{Standing, nextOf, bodyOf, entryOf, Makes, functionCount, FewParameters, PassCase, Passes, Filled, Fills}
 use Rattle.declarations.specs.declared.Rule.{Rule}
 use Rattle.declarations.specs.declared.Rule.the-variants as Is
 use Rattle.declarations.specs.declared.Reached.{Reached}
@@ -146,7 +143,7 @@ module _ (text tree : List ℕ) (words : ℕ) (gs : List Global) (total : ℕ) (
   some-fault l {core′ = core′} x [] s few e = absurd (no-more s l)
   some-fault l {core′ = core′} x (i ∷ is) s few e = item-fault core′ i is e (x .by words i is s few)
 
-  none-left : words ≤ p → words ≤ 524288 → total ≤ 256 → q ≤ p + entry total → (is : List Item) → Standing text tree words p is → Rest is → total ≡ f + functionCount is → Filled m total q f core₀ core
+  none-left : words ≤ p → words ≤ tree-room → total ≤ most-functions → q ≤ p + entry total → (is : List Item) → Standing text tree words p is → Rest is → total ≡ f + functionCount is → Filled m total q f core₀ core
   unfolding functionsFrom functionCount _>>=_ G.itemsWords
   none-left l u v w [] s e c = record {
     value = done;
@@ -178,5 +175,5 @@ module _ (text tree : List ℕ) (words : ℕ) (gs : List Global) (total : ℕ) (
   pub filling-fault : {d : Place} {r : Reached} {core′ : List ℕ} → p < words → r ≡ To.Broken d → Passes text tree gs p q f core r core′ → Fills text tree words gs total core₀ (To.Broken d) core′
   filling-fault {core′ = core′} l e y = fault-at l (subst (λ (u : Reached). Passes text tree gs p q f core u core′) e y)
 
-  pub filling-end : words ≤ p → words ≤ 524288 → total ≤ 256 → Fills text tree words gs total core₀ (To.At q f) core
+  pub filling-end : words ≤ p → words ≤ tree-room → total ≤ most-functions → Fills text tree words gs total core₀ (To.At q f) core
   filling-end l u v = record { by = λ is s few n. let h = now is s few n in none-left text tree words gs total core₀ p q f core (functionsFrom gs is) (h .done) (h .count) (h .place) (h .there) l u v (x .place) (h .rest) (h .stands) (h .is) (h .left) }

@@ -1,9 +1,9 @@
 -- An item's words: what its header says, and where the next item stands.
 use mathlib.Core.Path.{_≡_, refl, sym, ap, _∙_}
 use mathlib.Core.Bool.{Bool, true, false}
-use mathlib.Core.List.{List, [], _∷_, _++_}
+use mathlib.Core.List.{List, [], _∷_}
 use mathlib.Core.Option.{Option, none, some}
-use Prim.Native.Nat.{ℕ, zero, suc, _+_, _*_, _≤_, _<_}
+use Prim.Native.Nat.{ℕ, _+_, _*_, _≤_, _<_}
 use native.Mathlib.Nat.{add-zero}
 use native.Mathlib.Omega.{arith}
 use lib.ListN.{length, getD, drop, length-append}
@@ -16,7 +16,7 @@ use Rattle.language.specs.Tree as T
 use Rattle.language.specs.Rules.{types}
 use Rattle.grammar.specs.Flat as G
 use Rattle.grammar.proofs.FlatLaws.{params-linear, block-linear}
-use Rattle.rules.specs.Tables.{word, typeOf, resultOf, typesFrom, thingAt}
+use Rattle.rules.specs.Tables.{word, typeOf, resultOf, typesFrom}
 use Rattle.rules.specs.Named.{Stands, NamedParams, NamedBlock, NamedItems}
 use Rattle.declarations.specs.Post.{Standing, nextOf}
 

@@ -2,8 +2,8 @@
 use mathlib.Core.Path.{_≡_, refl, sym, ap, _∙_}
 use mathlib.Core.Bool.{Bool, true, false}
 use mathlib.Core.List.{List, [], _∷_}
-use mathlib.Core.Option.{Option, none, some}
-use Prim.Native.Nat.{ℕ, zero, suc, _+_, _-_, _*_, _≤_, _<_}
+use mathlib.Core.Option.{none, some}
+use Prim.Native.Nat.{ℕ, zero, suc, _+_, _-_, _*_}
 use native.Mathlib.Omega.{arith}
 use lib.Dec.{eqb}
 use lib.ListN.{length, getD}
@@ -11,7 +11,7 @@ use borrow.Author.Tests.{eq-eqb, ne-eqb}
 use Rattle.word.specs.Choice.{pick, both}
 use Rattle.language.specs.Tree.{Place, Name, Ty}
 use Rattle.language.specs.Tokens.{bytes}
-use Rattle.language.specs.Rules.{Ruled, keeps, breaks, _>>=_, _>>_, need, found, absent, andThen, isFunction, Thing, Global, globalOf, functionOf, sameName, main-name, mainOf}
+use Rattle.language.specs.Rules.{keeps, _>>=_, _>>_, need, found, absent, isFunction, Global, globalOf, functionOf, sameName, main-name, mainOf}
 use Rattle.rules.specs.Tables.{word, part, typeOf, resultOf, typesFrom, thingAt, globalAt, globalsIn}
 use Rattle.rules.specs.Post.{FindsGlobal, globalEntry}
 use Rattle.rules.proofs.Making.{entry-global}

@@ -1,19 +1,19 @@
 -- Parameters, one after the other: what is left of them enters the rest.
-use mathlib.Core.Path.{_≡_, refl, sym, ap, _∙_}
+use mathlib.Core.Path.{_≡_, refl, ap, _∙_}
 use mathlib.Core.Bool.{Bool, true, false}
 use mathlib.Core.List.{List, [], _∷_}
-use Prim.Native.Nat.{ℕ, zero, suc, _+_, _*_, _≤_, _<_}
+use Prim.Native.Nat.{ℕ, _+_, _*_, _≤_, _<_}
 use native.Mathlib.Numerals.{add-one}
 use native.Mathlib.Omega.{arith}
 use lib.ListN.{length, drop}
-use Rattle.language.specs.Tree.{Place, Name, Ty, Param}
-use Rattle.language.specs.Rules.{Ruled, keeps, breaks, _>>=_, need, Global, Local, Scope, fresh, parameters}
+use Rattle.language.specs.Tree.{Param}
+use Rattle.language.specs.Rules.{Ruled, keeps, breaks, need, Global, Scope, fresh, parameters}
 use Rattle.grammar.specs.Flat as G
 use Rattle.rules.specs.Tables.{word, part, typeOf, localsIn}
 use Rattle.rules.specs.Named.{NamedParams}
 use Rattle.rules.specs.Post.{scopeOf, Enters, Freshly}
 use Rattle.rules.proofs.Stating.{went, stopped}
-use Rattle.declarations.specs.Post.{no-locals, TakeCase, Takes}
+use Rattle.declarations.specs.Post.{no-locals, Takes}
 use Rattle.declarations.specs.declared.Rule.the-variants as Is
 use Rattle.declarations.proofs.Standing as S
 

@@ -1,23 +1,21 @@
 -- The parts together: what the declarations count, `main`, the functions, and the program's words.
 use mathlib.Core.Path.{_≡_, refl, sym, ap, subst, _∙_}
 use mathlib.Core.Bool.{Bool, true, false}
-use mathlib.Core.List.{List, [], _∷_, _++_, append-assoc}
-use mathlib.Core.Option.{Option}
-use Prim.Native.Nat.{ℕ, zero, suc, _+_, _*_, _≤_, _<_}
+use mathlib.Core.List.{List, [], _∷_, _++_}
+use Prim.Native.Nat.{ℕ, _+_, _≤_}
 use native.Mathlib.Omega.{arith}
-use lib.Dec.{leb}
-use lib.ListN.{length, drop, take}
+use lib.ListN.{length, drop}
 use lib.Seq.{sets, sets-eq, length-sets}
 use borrow.Author.Tests.{leb-true}
 use Rattle.language.specs.Tree.{Place, Item, array, function}
 use Rattle.language.specs.Core as C
 use Rattle.language.specs.Grammar.{Parses}
-use Rattle.language.specs.Rules.{Ruled, keeps, breaks, _>>=_, need, Global, Declared, nothing-declared, declare, declareAll, mainOf, functionsFrom, elaborate}
+use Rattle.language.specs.Rules.{Ruled, keeps, _>>=_, need, Global, Declared, nothing-declared, declare, declareAll, mainOf, functionsFrom, elaborate}
 use Rattle.grammar.specs.Flat as G
+use Rattle.grammar.specs.Answers.{Good}
 use Rattle.grammar.proofs.FlatLaws.{items-linear}
-use Rattle.flat.specs.Words.{wordsOf, entry, entries, bodies}
 use Rattle.rules.specs.Tables.{globalsIn}
-use Rattle.rules.proofs.Kept.{All, kept, then, anything}
+use Rattle.rules.proofs.Kept.{All, kept, then}
 use Rattle.rules.proofs.Stating.{went, stopped}
 use Rattle.declarations.specs.Post.{Standing, declaredIn, DeclareCase, DeclaresAll, functionCount, FewParameters, MainCase, Begins, FillCase, Filled, Fills, built, Kept, ElaborateCase, Builds, Elaborates}
 use Rattle.declarations.specs.declared.Tally.{Tally}
@@ -101,7 +99,7 @@ unfolding G.treeWords
 tree-words before items l =
     sets-eq (G.itemsWords items []) before 0 (omega (arith, l)) ∙ (ap (λ (k : ℕ). G.itemsWords items [] ++ drop k before) {x = 0 + length (G.itemsWords items [])} {y = length (G.itemsWords items [])} (omega arith) ∙ sym (items-linear items (drop (length (G.itemsWords items [])) before)))
 
-standing : (text tree : List ℕ) (words : ℕ) (items : List Item) (before : List ℕ) → length tree ≡ 524288 → Parses text items → tree ≡ sets before 0 (G.treeWords items) → words ≡ length (G.treeWords items) → Standing text tree words 0 items
+standing : (text tree : List ℕ) (words : ℕ) (items : List Item) (before : List ℕ) → length tree ≡ G.tree-room → Parses text items → tree ≡ sets before 0 (G.treeWords items) → words ≡ length (G.treeWords items) → Standing text tree words 0 items
 unfolding G.treeWords
 standing text tree words items before l p e n = record {
   more = drop (length (G.treeWords items)) before;
@@ -114,7 +112,7 @@ elaborate-is : (items : List Item) (end : Place) → elaborate items end ≡ dec
 unfolding elaborate built
 elaborate-is items end = refl
 
-module _ (text tree : List ℕ) (words : ℕ) (core : List ℕ) {r : Tally} {globals : List ℕ} (l : length tree ≡ 524288) (d : DeclaresAll text tree words r globals) where
+module _ (text tree : List ℕ) (words : ℕ) (core : List ℕ) {r : Tally} {globals : List ℕ} (l : length tree ≡ G.tree-room) (d : DeclaresAll text tree words r globals) where
   declared-is : {u : Tally} → r ≡ u → (items : List Item) → Standing text tree words 0 items → DeclareCase text tree (declareAll items nothing-declared) u globals
   declared-is e items s = subst (λ (v : Tally). DeclareCase text tree (declareAll items nothing-declared) v globals) e (d .by items s)
 
@@ -129,3 +127,11 @@ module _ (text tree : List ℕ) (words : ℕ) (core : List ℕ) {r : Tally} {glo
 
   pub whole : {a e f : ℕ} {u : Elaborated} {core′ : List ℕ} → r ≡ In.All a e f → Builds text tree words (globalsIn text tree globals (a + f)) f e core u core′ → Elaborates text tree words core u core′
   whole k b = record { by = λ items before p t n. whole-on k b items (standing text tree words items before l p t n) }
+
+-- For who calls `parse` first
+
+pub tree-fits : {text before : List ℕ} {c e : ℕ} {tree : List ℕ} → Good text before c e tree → e ≤ G.tree-room
+tree-fits g = rw (g .size) (tree-few (g .parses))
+
+pub of-parsed : {text before : List ℕ} {c e : ℕ} {tree core : List ℕ} {r : Elaborated} {core′ : List ℕ} (g : Good text before c e tree) → Elaborates text tree e core r core′ → ElaborateCase (elaborate (g .items) (length text)) core r core′
+of-parsed {before = before} g x = x .by (g .items) before (g .parses) (g .words) (g .size)

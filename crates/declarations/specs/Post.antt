@@ -130,8 +130,12 @@ locals-room = 260
 abbrev pub operands-room : ℕ
 operands-room = 131072
 
+-- a program's first words and the entries of 256 functions
+abbrev pub head-words : ℕ
+head-words = 1027
+
 abbrev pub core-room : ℕ
-core-room = 525315
+core-room = tree-room + head-words
 
 pub record Rooms (tree : List ℕ) (g : ℕ) (locals types starts core : List ℕ) : Type 0 where
   pub words : length tree ≡ tree-room
@@ -144,7 +148,7 @@ pub record Rooms (tree : List ℕ) (g : ℕ) (locals types starts core : List �
 -- an item at p, its body from q on, and its entry at e
 pub record Spot (p q e : ℕ) : Type 0 where
   pub item : p < tree-room
-  pub body : q ≤ p + 1027
+  pub body : q ≤ p + head-words
   pub entry : e ≤ p + 3
 
 -- Functions

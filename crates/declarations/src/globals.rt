@@ -1,8 +1,8 @@
 // "All arrays and functions have different names", and their sizes: the table of the globals, from the first item of the tree to the last.
 ghost use mathlib.Core.Path.{_≡_};
-ghost use mathlib.Core.List.{[], _∷_};
 ghost use Prim.Native.Nat.{_+_, _*_, _≤_, _<_};
 ghost use lib.ListN.{length};
+ghost use Rattle.language.specs.Rules.{most-elements-in-all};
 ghost use Rattle.grammar.specs.Flat.{tree-room};
 ghost use Rattle.rules.specs.Post.{most-entries, most-places};
 ghost use Rattle.declarations.specs.Post.{globals-room, nextOf, isNew, arrayFits, functionFits, Adds, Few, Declares, DeclaresAll};
@@ -65,7 +65,7 @@ pub fn is_new(text: &[u8], tree: &[u32], globals: &[u32], g: usize, p: usize) ->
 
 // Whether an array of n elements is allowed.
 pub fn array_fits(arrays: u32, elements: u32, n: u32) -> bool
-    requires { ⌜ elements ≤ 16384 ⌝ }
+    requires { ⌜ elements ≤ most-elements-in-all ⌝ }
     ensures { λ r. ⌜ r ≡ arrayFits arrays elements n ⌝ }
 {
     if n < 1 {

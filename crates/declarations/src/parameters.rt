@@ -1,6 +1,7 @@
 // "a parameter, in the whole body": a function's parameters are its first locals.
 ghost use Prim.Native.Nat.{_≤_};
 ghost use lib.ListN.{length, drop};
+ghost use Rattle.language.specs.Rules.{most-parameters};
 ghost use Rattle.rules.specs.Tables.{globalsIn};
 ghost use Rattle.rules.specs.Post.{most-entries, most-places};
 ghost use Rattle.declarations.specs.Post.{locals-room, Takes};
@@ -25,7 +26,7 @@ pub fn parameters(
     p: usize,
     n: u32,
 ) -> Rule
-    requires { ⌜ (g ≤ most-entries) × (locals-room ≤ length (now locals)) × (p ≤ most-places) × (n ≤ 8) ⌝ }
+    requires { ⌜ (g ≤ most-entries) × (locals-room ≤ length (now locals)) × (p ≤ most-places) × (n ≤ most-parameters) ⌝ }
     ensures { λ r. ⌜ Takes (now (text .entry)) (globalsIn (now (text .entry)) (now (tree .entry)) (now (globals .entry)) g) n (drop p (now (tree .entry))) r (now (locals .exit)) ⌝ }
 {
     let mut k: u32 = 0;

@@ -1,5 +1,4 @@
 -- By the item's kind.
-use native.Mathlib.Omega.{arith}
 use Rattle.declarations.proofs.Standing as L
 use Rattle.declarations.proofs.globals.next.Statement.{statement}
 use Rattle.declarations.proofs.globals.next.Tie as tie
