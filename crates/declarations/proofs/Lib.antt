@@ -5,5 +5,7 @@ pub mod Declaring
 pub mod Starting
 pub mod Programs
 pub mod Taking
+pub mod Finishing
 pub mod Filling
+pub mod Rooms
 pub mod Together

@@ -13,6 +13,7 @@ use Rattle.flat.specs.Statements.{Stmt, Block, flats}
 use Rattle.flat.specs.Statements as S
 use Rattle.flat.specs.Words.{kindWords, itemsWords, header, count, restLength, blockLength, stmtWords, blockWords, entries, bodies, entry, wordsThen, wordsOf}
 use Rattle.rules.proofs.Stacks.{sets-append}
+use Rattle.rules.proofs.Extents.{flat-block}
 use Rattle.declarations.specs.Post.{entryOf, bodyOf}
 
 -- Statements and blocks
@@ -30,28 +31,10 @@ kind-linear (I.or n) c m = refl
 kind-linear I.join c m = refl
 kind-linear I.unknown c m = refl
 
-kind-length : (k : Kind) (c : ℕ) (m : List ℕ) → length (kindWords k c m) ≡ 4 + length m
-unfolding kindWords
-kind-length (I.number n) c m = omega arith
-kind-length (I.local x) c m = omega arith
-kind-length (I.element a) c m = omega arith
-kind-length (I.call f n) c m = omega arith
-kind-length (I.unary o) c m = omega arith
-kind-length (I.strict o) c m = omega arith
-kind-length (I.and n) c m = omega arith
-kind-length (I.or n) c m = omega arith
-kind-length I.join c m = omega arith
-kind-length I.unknown c m = omega arith
-
 items-linear : (is : List Item) → Linear (itemsWords is)
 unfolding itemsWords
 items-linear [] m = refl
 items-linear (i ∷ is) m = both (kindWords (i .kind) (i .charge)) (itemsWords is) (kind-linear (i .kind) (i .charge)) (items-linear is) m
-
-items-length : (is : List Item) (m : List ℕ) → length (itemsWords is m) ≡ 4 * length is + length m
-unfolding itemsWords
-items-length [] m = omega arith
-items-length (i ∷ is) m = kind-length (i .kind) (i .charge) (itemsWords is m) ∙ omega (arith, items-length is m)
 
 mutual
   unfolding stmtWords blockWords
@@ -72,24 +55,6 @@ mutual
   block-linear : (b : Block) → Linear (blockWords b)
   block-linear S.end m = refl
   block-linear (S.then s b) m = both (stmtWords s (restLength s)) (blockWords b) (λ w. stmt-linear s (restLength s) w) (λ w. block-linear b w) m
-
-mutual
-  unfolding stmtWords blockWords restLength
-
-  stmt-length : (s : Stmt) (n : ℕ) (m : List ℕ) → length (stmtWords s n m) ≡ 8 + restLength s + length m
-  stmt-length (S.put x is) n m = omega (arith, items-length is m)
-  stmt-length (S.store a is js) n m = omega (arith, items-length is (itemsWords js m), items-length js m)
-  stmt-length (S.choose is a b) n m = omega (arith, items-length is (blockWords a (blockWords b m)), block-length a (blockWords b m), block-length b m)
-  stmt-length (S.while is b) n m = omega (arith, items-length is (blockWords b m), block-length b m)
-  stmt-length S.leave n m = omega arith
-  stmt-length (S.give is) n m = omega (arith, items-length is m)
-  stmt-length (S.emit is) n m = omega (arith, items-length is m)
-  stmt-length (S.run is) n m = omega (arith, items-length is m)
-  stmt-length S.unknown n m = omega arith
-
-  block-length : (b : Block) (m : List ℕ) → length (blockWords b m) ≡ blockLength b + length m
-  block-length S.end m = omega arith
-  block-length (S.then s b) m = stmt-length s (restLength s) (blockWords b m) ∙ omega (arith, block-length b m)
 
 -- Functions
 
@@ -117,7 +82,7 @@ bodies-more (g ∷ fs) f = ap (blockWords (flats (g .body))) (bodies-more fs f) 
 
 bodies-length : (f : C.Function) (fs : List C.Function) → length (bodies (f ∷ fs) []) ≡ blockLength (flats (f .body)) + length (bodies fs [])
 unfolding bodies
-bodies-length f fs = block-length (flats (f .body)) (bodies fs [])
+bodies-length f fs = flat-block (flats (f .body)) (bodies fs [])
 
 entries-more : (fs : List C.Function) (f : C.Function) (place : ℕ) → entries (fs ++ (f ∷ [])) place [] ≡ entries fs place [] ++ entryOf f (place + length (bodies fs []))
 unfolding entries bodies
@@ -162,7 +127,7 @@ row-more core {core₁} {core₂} done f total l c d = go (entryOf f (entry tota
         ap (λ (w : List ℕ). sets (sets core 3 (entries (done ++ (f ∷ [])) (entry total) [])) (entry total) w) (sym (bodies-more done f)))))))
 
 pub bodies-on : (done : List C.Function) (f : C.Function) → length (bodies (done ++ (f ∷ [])) []) ≡ length (bodies done []) + blockLength (flats (f .body))
-bodies-on done f = ap length (bodies-more done f) ∙ (length-append (bodies done []) (bodyOf f) ∙ omega (arith, block-length (flats (f .body)) []))
+bodies-on done f = ap length (bodies-more done f) ∙ (length-append (bodies done []) (bodyOf f) ∙ omega (arith, flat-block (flats (f .body)) []))
 
 three-parts : (c : List ℕ) (h u v : List ℕ) (i j : ℕ) → i ≡ length h → j ≡ i + length u → sets (sets (sets c 0 h) i u) j v ≡ sets c 0 (h ++ (u ++ v))
 three-parts c h u v i j e f =

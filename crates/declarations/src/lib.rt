@@ -3,6 +3,8 @@
 pub mod globals; // arrays and functions by name
 pub mod entry; // `main`
 pub mod parameters; // the parameters of a function
+pub mod functions; // functions: bodies and entries
+pub mod whole; // all of it
 
 // How many arrays, elements in all and functions are declared; or the place of a broken rule.
 pub enum Tally {
