@@ -92,8 +92,11 @@ pub record Scanning (ws : List ℕ) (j need p : ℕ) : Type 0 where
   pub each : (e : Expr) (i : ℕ) → Lies ws e i j → Parts ws need i p
 
 module _ {ws : List ℕ} {j : ℕ} where
-  pub scanning-start : Scanning ws j 1 j
-  scanning-start = record { each = λ (e : Expr) (i : ℕ) (l : Lies ws e i j). and (nothing refl) (whole l) }
+  pub scanning-start : {r : ℕ} → r ≡ operandsOf (word ws (j - 4)) (second ws j) → Scanning ws j r (j - 4)
+  scanning-start h = record { each = λ (e : Expr) (i : ℕ) (l : Lies ws e i j). counted (past (nothing {i = i} refl) (whole l)) (omega (arith, h)) }
+
+  pub scanning-none : j < 4 → Starts ws j 0
+  scanning-none h = record { each = λ (e : Expr) (i : ℕ) (l : Lies ws e i j). absurd (omega (arith, ends l)) }
 
   pub scanning-next : {need p r : ℕ} → Scanning ws j need p → 0 < need → r ≡ operandsOf (word ws (p - 4)) (second ws p) → Scanning ws j (need - 1 + r) (p - 4)
   scanning-next {need} s h e = record { each = λ (x : Expr) (i : ℕ) (l : Lies ws x i j). onward need h e (s .each x i l) }

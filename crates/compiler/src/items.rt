@@ -35,10 +35,13 @@ pub fn operands(words: &[u32], end: usize) -> u32
 pub fn start_of(words: &[u32], end: usize) -> usize
     requires { ⌜ end ≤ 1073741824 ⌝ }
     ensures { λ r. ⌜ Starts (now (words .entry)) end r ⌝ }
-    ensures within { λ r. ⌜ r ≤ end ⌝ }
+    ensures within { λ r. ⌜ r ≤ end - 4 ⌝ }
 {
-    let mut p = end;
-    let mut need: usize = 1;
+    if end < 4 {
+        return 0;
+    }
+    let mut p = end - 4;
+    let mut need = operands(words, end) as usize;
     while 0 < need {
         if p < 4 {
             return 0;
