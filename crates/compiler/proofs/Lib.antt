@@ -1,3 +1,4 @@
 pub mod Views
 pub mod Scanning
 pub mod Written
+pub mod Arguments

@@ -10,7 +10,7 @@ use Rattle.language.specs.Core.{Array, Expr, Args}
 use Rattle.language.specs.Core as C
 use Rattle.flat.specs.Words.{word, unaryNumber, strictNumber}
 use Rattle.codegen.specs.Owed.{count}
-use Rattle.compiler.specs.Lies.{Ends, first, second, Lies, number, local, element, call, unary, strict, and, or, LieAll}
+use Rattle.compiler.specs.Lies.{Ends, first, second, Lies, number, local, element, call, unary, strict, and, or, LieAll, none, more}
 
 array-is : (a : Array) {x y : ℕ} → x ≡ a .offset → y ≡ a .size → _≡_ {A = Array} a (record { offset = x; size = y })
 array-is a {x} e f = ap (λ (o : ℕ). record { offset = o; size = a .size }) (sym e) ∙ ap (λ (s : ℕ). record { offset = x; size = s }) (sym f)
@@ -148,3 +148,20 @@ module _ {ws : List ℕ} {i j : ℕ} where
   ends (strict k p l r) = k .enough
   ends (and k l p r) = k .enough
   ends (or k l p r) = k .enough
+
+-- an expression is at least one item long
+module _ {ws : List ℕ} where
+  mutual
+    pub starts : {e : Expr} {i j : ℕ} → Lies ws e i j → i + 4 ≤ j
+    starts (number k p q) = omega arith
+    starts (local k p q) = omega arith
+    starts (element k p q l) = omega (arith, starts l)
+    starts (call k p q l) = omega (arith, starts-in l)
+    starts (unary k p l) = omega (arith, starts l)
+    starts (strict k p l r) = omega (arith, starts l, starts r)
+    starts (and k l p r) = omega (arith, starts l, starts r)
+    starts (or k l p r) = omega (arith, starts l, starts r)
+
+    starts-in : {xs : Args} {i j : ℕ} → LieAll ws xs i j → i ≤ j
+    starts-in (none h) = omega arith
+    starts-in (more l ls) = omega (arith, starts l, starts-in ls)
