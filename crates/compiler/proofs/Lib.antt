@@ -2,3 +2,5 @@ pub mod Views
 pub mod Scanning
 pub mod Written
 pub mod Arguments
+pub mod Valuing
+pub mod Deciding
