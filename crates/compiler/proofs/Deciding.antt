@@ -26,7 +26,7 @@ use Rattle.emission.specs.Macros.{strictOf}
 use Rattle.emission.proofs.Laws.{after, after-if}
 use Rattle.compiler.specs.Lies.{first, second, Lies, LieAll}
 use Rattle.compiler.specs.Lies as L
-use Rattle.compiler.specs.Post.{Starts, PlaceAt, SidesAt, RelationAt, Compares, entryIn, Values, Arguments, Conditions, Callings, agree}
+use Rattle.compiler.specs.Post.{Starts, PlaceAt, SidesAt, RelationAt, Compares, entryIn, Values, Conditions, Calls, agree}
 use Rattle.compiler.proofs.Views.{NumberAt, CallAt, UnaryAt, StrictAt, JoinAt, joining, is-number, is-call, is-unary, is-strict, is-join, ends, starts}
 use Rattle.compiler.proofs.Valuing.{next-room, room-small, other-is}
 
@@ -152,15 +152,17 @@ module _ (ws es : List ℕ) (near t : Bool) (d j at to : ℕ) {us us₁ : List �
       by : {e : Expr} {i : ℕ} → NumberAt ws i j e → Emits (condition (entryIn es) near e t d (to - at)) at us us₁ r₁
       by v = subst⁻¹ (λ (x : Expr). Emits (condition (entryIn es) near x t d (to - at)) at us us₁ r₁) (v .is) s
 
-  pub condition-call : {us₂ us₃ : List ℕ} {n r₂ r₃ : ℕ} → word ws (j - 4) ≡ 3 → n ≡ second ws j → Emits (skip near (sense t Ne) answer x0 (to - at)) at us us₁ r₁ →
-      Callings ws es j d r₁ us₁ us₂ r₂ → Arguments ws es near (j - 4) n d r₂ us₂ us₃ r₃ → Conditions ws es near t j d at to us us₃ r₃
+  pub condition-call : {us₂ : List ℕ} {r₂ : ℕ} → word ws (j - 4) ≡ 3 → Emits (skip near (sense t Ne) answer x0 (to - at)) at us us₁ r₁ → Calls ws es near j d r₁ us₁ us₂ r₂ →
+      Conditions ws es near t j d at to us us₂ r₂
   unfolding condition
-  condition-call {us₂} {us₃} {n} {r₂} {r₃} k e s c g = record { each = λ (e : Expr) (i : ℕ) (l : Lies ws e i j) (h : 4 * d ≤ i). by h (is-call l k) }
+  condition-call {us₂} {r₂} k s c = record { each = λ (e : Expr) (i : ℕ) (l : Lies ws e i j) (h : 4 * d ≤ i). by h (is-call l k) }
     where
-      by : {e : Expr} {i : ℕ} → 4 * d ≤ i → CallAt ws i j e → Emits (condition (entryIn es) near e t d (to - at)) at us us₃ r₃
+      by : {e : Expr} {i : ℕ} → 4 * d ≤ i → CallAt ws i j e → Emits (condition (entryIn es) near e t d (to - at)) at us us₂ r₂
       by {i = i} h v =
-          subst⁻¹ (λ (x : Expr). Emits (condition (entryIn es) near x t d (to - at)) at us us₃ r₃) (v .is)
-          (after (after s (c .each (v .xs) i (v .arguments) (v .many) h)) (g .each (v .xs) i (v .arguments) (sym (v .many) ∙ sym e) h))
+          subst⁻¹ (λ (x : Expr). Emits (condition (entryIn es) near x t d (to - at)) at us us₂ r₂) (v .is)
+          (subst (λ (x : List Instruction). Emits x at us us₂ r₂)
+          (append-assoc (codes (entryIn es) near (v .xs) d) (calling (entryIn es (first ws j)) (placesOf (v .xs) d) d) (skip near (sense t Ne) answer x0 (to - at)))
+          (after s (c .each (v .xs) i (v .arguments) (v .many) h)))
 
   pub condition-compare : {middle next r₂ r₃ : ℕ} {us₂ us₃ : List ℕ} {c : Cond} {turned : Bool} {s : Option (Cond × Bool)} → j ≤ 1073741824 → RelationAt ws j s → s ≡ some (c, turned) →
       SidesAt ws (j - 4) d middle next → Compares ws near t c turned j middle next d at to us us₁ r₁ → Values ws es near (j - 4) next r₁ us₁ us₂ r₂ → Values ws es near middle d r₂ us₂ us₃ r₃ →

@@ -4,3 +4,4 @@ pub mod Written
 pub mod Arguments
 pub mod Valuing
 pub mod Deciding
+pub mod Calling

@@ -19,7 +19,7 @@ use Rattle.codegen.specs.Expressions.{placeOf, placesOf, code, codes, condition
 use Rattle.emission.specs.Tape.{Emits}
 use Rattle.emission.proofs.Laws.{none, after, after-if}
 use Rattle.compiler.specs.Lies.{first, second, Lies, LieAll, number, local, element, call, unary, strict, and, or}
-use Rattle.compiler.specs.Post.{Starts, PlaceAt, weight, SidesAt, Reads, Applies, Operates, entryIn, Values, Arguments, Conditions, Callings}
+use Rattle.compiler.specs.Post.{Starts, PlaceAt, weight, SidesAt, Reads, Applies, Operates, entryIn, Values, Arguments, Conditions, Passes, Callings, Calls}
 use Rattle.compiler.proofs.Views.{ElementAt, CallAt, UnaryAt, StrictAt, JoinAt, joining, is-element, is-call, is-unary, is-strict, is-join, ends, starts}
 use Rattle.compiler.proofs.Arguments.{weight-at, weight-small}
 
@@ -130,15 +130,16 @@ module _ (ws es : List ℕ) (near : Bool) (d j at : ℕ) (us : List ℕ) where
               (at-sides (v .o) (v .a) (v .b) h (v .operator) (f .1) (subst⁻¹ (λ (m : ℕ). Lies ws (v .a) i m) (f .0) (v .left)) (subst⁻¹ (λ (m : ℕ). Lies ws (v .b) m (j - 4)) (f .0) (v .right)))
 
     -- a call: its result becomes a temporary
-    pub value-call : {us₂ us₃ : List ℕ} {n r₂ r₃ : ℕ} → word ws (j - 4) ≡ 3 → n ≡ second ws j → Emits (mv (target d) answer ∷ keep d) at us us₁ r₁ →
-        Callings ws es j d r₁ us₁ us₂ r₂ → Arguments ws es near (j - 4) n d r₂ us₂ us₃ r₃ → Values ws es near j d at us us₃ r₃
+    pub value-call : {us₂ : List ℕ} {r₂ : ℕ} → word ws (j - 4) ≡ 3 → Emits (mv (target d) answer ∷ keep d) at us us₁ r₁ → Calls ws es near j d r₁ us₁ us₂ r₂ → Values ws es near j d at us us₂ r₂
     unfolding code
-    value-call {us₂} {us₃} {n} {r₂} {r₃} k e s c t = record { each = λ (e : Expr) (i : ℕ) (l : Lies ws e i j) (h : 4 * d ≤ i). by h (is-call l k) }
+    value-call {us₂} {r₂} k s c = record { each = λ (e : Expr) (i : ℕ) (l : Lies ws e i j) (h : 4 * d ≤ i). by h (is-call l k) }
       where
-        by : {e : Expr} {i : ℕ} → 4 * d ≤ i → CallAt ws i j e → Emits (code (entryIn es) near e d) at us us₃ r₃
+        by : {e : Expr} {i : ℕ} → 4 * d ≤ i → CallAt ws i j e → Emits (code (entryIn es) near e d) at us us₂ r₂
         by {i = i} h v =
-            subst⁻¹ (λ (x : Expr). Emits (code (entryIn es) near x d) at us us₃ r₃) (v .is)
-            (after (after s (c .each (v .xs) i (v .arguments) (v .many) h)) (t .each (v .xs) i (v .arguments) (sym (v .many) ∙ sym e) h))
+            subst⁻¹ (λ (x : Expr). Emits (code (entryIn es) near x d) at us us₂ r₂) (v .is)
+            (subst (λ (x : List Instruction). Emits x at us us₂ r₂)
+            (append-assoc (codes (entryIn es) near (v .xs) d) (calling (entryIn es (first ws j)) (placesOf (v .xs) d) d) (mv (target d) answer ∷ keep d))
+            (after s (c .each (v .xs) i (v .arguments) (v .many) h)))
 
 -- `&&` and `||` as values
 

@@ -2,7 +2,7 @@
 use Prim.Native.Nat.{ℕ, _+_, _-_, _*_, _≤_, _<_}
 use mathlib.Core.Path.{_≡_}
 use mathlib.Core.Bool.{Bool, true, false}
-use mathlib.Core.List.{List, [], _∷_}
+use mathlib.Core.List.{List, [], _∷_, _++_}
 use mathlib.Core.Option.{Option, none, some}
 use lib.Dec.{ltb, leb}
 use lib.ListN.{getD, length}
@@ -16,7 +16,7 @@ use Rattle.flat.specs.Words.{word, unaryNumber, strictNumber}
 use Rattle.codegen.specs.Owed.{count}
 use Rattle.codegen.specs.Places.{Place, above}
 use Rattle.codegen.specs.Operators.{operating, applying, relation, reading, comparing}
-use Rattle.codegen.specs.Expressions.{placeOf, placesOf, code, codes, condition, calling}
+use Rattle.codegen.specs.Expressions.{placeOf, placesOf, code, codes, condition, passes, calling}
 use Rattle.emission.specs.Tape.{Emits}
 use Rattle.emission.specs.Macros.{strictOf}
 use Rattle.compiler.specs.Lies.{first, second, Lies, LieAll}
@@ -85,10 +85,29 @@ pub record Arguments (ws es : List ℕ) (near : Bool) (j n d at : ℕ) (us us′
 pub record Conditions (ws es : List ℕ) (near t : Bool) (j d at to : ℕ) (us us′ : List ℕ) (r : ℕ) : Type 0 where
   pub each : (e : Expr) (i : ℕ) → Lies ws e i j → 4 * d ≤ i → Emits (condition (entryIn es) near e t d (to - at)) at us us′ r
 
--- a call's own code, with its n arguments' values at their places
+-- values passed as arguments, the last one first
+pub record Passes (ws : List ℕ) (j n d at : ℕ) (us us′ : List ℕ) (r : ℕ) : Type 0 where
+  pub each : (xs : Args) (i : ℕ) → LieAll ws xs i j → count xs ≡ n → 4 * d ≤ i → Emits (passes (placesOf xs d) 0) at us us′ r
+
+-- a call's own code, with its arguments' values at their places; and with the code of these
 pub record Callings (ws es : List ℕ) (j d at : ℕ) (us us′ : List ℕ) (r : ℕ) : Type 0 where
   pub each : (xs : Args) (i : ℕ) → LieAll ws xs i (j - 4) → second ws j ≡ count xs → 4 * d ≤ i →
       Emits (calling (entryIn es (first ws j)) (placesOf xs d) d) at us us′ r
+
+pub record Calls (ws es : List ℕ) (near : Bool) (j d at : ℕ) (us us′ : List ℕ) (r : ℕ) : Type 0 where
+  pub each : (xs : Args) (i : ℕ) → LieAll ws xs i (j - 4) → second ws j ≡ count xs → 4 * d ≤ i →
+      Emits (codes (entryIn es) near xs d ++ calling (entryIn es (first ws j)) (placesOf xs d) d) at us us′ r
+
+-- What the functions ask: a position among the words, and one of code.
+pub record Ready (j at : ℕ) : Type 0 where
+  pub small : j ≤ 1073741824
+  pub room : at ≤ 262144
+
+-- a position of code to jump to
+pub record Aimed (j at to : ℕ) : Type 0 where
+  pub small : j ≤ 1073741824
+  pub ahead : at ≤ to
+  pub room : to ≤ 262144
 
 -- the one branch that the item ending at j is, if it is one
 pub record RelationAt (ws : List ℕ) (j : ℕ) (s : Option (Cond × Bool)) : Type 0 where
