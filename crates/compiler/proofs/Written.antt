@@ -22,7 +22,7 @@ record Holds (ws us : List ℕ) (i a c d : ℕ) : Type 0 where
   two : second ws (i + 4) ≡ d
   rest : Past (i + 4) ws us
 
-at : (ws us : List ℕ) (i n k : ℕ) → Past i ws us → k ≡ i + n → word ws k ≡ word us n
+pub at : (ws us : List ℕ) (i n k : ℕ) → Past i ws us → k ≡ i + n → word ws k ≡ word us n
 at ws us i n k p e = ap (word ws) e ∙ sym (getD-drop i ws n 0) ∙ ap (λ (vs : List ℕ). word vs n) (p .is)
 
 holds : {ws us : List ℕ} {i a b c d : ℕ} → Past i ws (a ∷ b ∷ c ∷ d ∷ us) → Holds ws us i a c d
@@ -115,7 +115,7 @@ module _ {ws us : List ℕ} {i : ℕ} where
         rest = h .rest;
       }
 
-  call-stands : {f : ℕ} {xs : Args} → StandAll ws us xs f 0 i → Stands ws us (C.call f xs) i
+  pub call-stands : {f : ℕ} {xs : Args} → StandAll ws us xs f 0 i → Stands ws us (C.call f xs) i
   unfolding size
   call-stands {f} {xs} s = record {
     end = s .end + 4;
