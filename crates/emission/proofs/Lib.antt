@@ -3,3 +3,8 @@ pub mod Low
 pub mod Pieces
 pub mod Skips
 pub mod Strictly
+pub mod Unaries
+pub mod Arrays
+pub mod Calling
+pub mod Ends
+pub mod Wordwise

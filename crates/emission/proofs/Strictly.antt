@@ -22,10 +22,13 @@ use Rattle.codegen.specs.Operators as O
 use Rattle.codegen.specs.Operators.{stub, working, immediate, operating, operatingBy}
 use Rattle.emission.specs.declared.Work.{Work}
 use Rattle.emission.specs.declared.Work.the-variants.{Plain, Divided, Tested}
+use Rattle.codegen.specs.Expressions.{decidingBy}
+use Rattle.emission.specs.declared.Relation.{Relation}
+use Rattle.emission.specs.declared.Relation.the-variants as R
 use Rattle.emission.specs.declared.Immediate.{Immediate}
 use Rattle.emission.specs.declared.Immediate.the-variants as I
 use Rattle.emission.specs.Tape.{Puts, Emits}
-use Rattle.emission.specs.Macros.{strictOf, worked, immediately, EmitsFor, EmitsOne}
+use Rattle.emission.specs.Macros.{strictOf, worked, related, immediately, EmitsFor, EmitsOne, EmitsAny}
 use Rattle.emission.proofs.Laws as L
 use Rattle.emission.proofs.Laws.{one, last, after}
 
@@ -141,3 +144,18 @@ module _ (s : Strict) (p q : P.Place) (d : ℕ) {i : Immediate} {at : ℕ} {ws :
   operates {u} {v} {r₁} {r₂} {r₃} {ws₁} {ws₂} {ws₃} e eu ev h f g =
       subst (λ (x : Option (Alu × ℕ)). Emits (operatingBy x s p q d) at ws ws₃ r₃) (ap immediately (sym e) ∙ is)
       (after (after (h .each (source p 0) (source q 1) (sym eu) (sym ev)) f) g)
+
+-- As a condition
+
+module _ (near t : Bool) (s : Strict) (p q : P.Place) (d k : ℕ) {x : Relation} {at : ℕ} {ws : List ℕ} (is : related x ≡ O.relation s) where
+  pub decides-one : {c : Cond} {turned : Bool} {r : ℕ} {ws′ : List ℕ} → x ≡ R.One c turned → Emits (O.comparing near t c turned p q k) at ws ws′ r →
+      EmitsAny (λ entry. decidingBy entry near (O.relation s) t s p q d k) at ws ws′ r
+  decides-one {c} {turned} {r} {ws′} e h = record {
+    each = λ (entry : ℕ → ℕ). subst (λ (z : Option (Cond × Bool)). Emits (decidingBy entry near z t s p q d k) at ws ws′ r) (ap related (sym e) ∙ is) h;
+  }
+
+  pub decides : {r₁ r₂ : ℕ} {ws₁ ws₂ : List ℕ} → x ≡ R.None → Emits (O.testing near t (P.temporary d) k) at ws ws₁ r₁ → Emits (operating s p q d) r₁ ws₁ ws₂ r₂ →
+      EmitsAny (λ entry. decidingBy entry near (O.relation s) t s p q d k) at ws ws₂ r₂
+  decides {r₁} {r₂} {ws₁} {ws₂} e h f = record {
+    each = λ (entry : ℕ → ℕ). subst (λ (z : Option (Cond × Bool)). Emits (decidingBy entry near z t s p q d k) at ws ws₂ r₂) (ap related (sym e) ∙ is) (after h f);
+  }

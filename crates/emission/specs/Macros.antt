@@ -1,4 +1,4 @@
--- What the functions for the pieces of code that `codegen` is made of ensure: a register is given by its number, and a strict operator by its number in the
+-- What the functions for the pieces of code that `codegen` is made of ensure: a register is given by its number, and an operator by its number in the
 -- flat form's table.
 use Prim.Native.Nat.{ℕ}
 use mathlib.Core.Path.{_≡_}
@@ -9,7 +9,9 @@ use lib.ListN.{getD}
 use Rattle.processor.specs.declared.Alu.{Alu}
 use Rattle.processor.specs.declared.Cond.{Cond}
 use Rattle.processor.specs.declared.Instr.{Instr}
-use Rattle.language.specs.Tree.{Strict, eq, ne, lt, le, gt, ge, add, sub, mul, div, rem}
+use Rattle.language.specs.Core.{Array}
+use Rattle.language.specs.Tree as T
+use Rattle.language.specs.Tree.{Unary, negate, Strict, eq, ne, lt, le, gt, ge, add, sub, mul, div, rem}
 use Rattle.symbolic.specs.Symbolic.{Reg, number, Instruction}
 use Rattle.symbolic.specs.Real.{real}
 use Rattle.codegen.specs.Places as P
@@ -41,6 +43,18 @@ pub record EmitsFor (code : Reg → Reg → List Instruction) (m n : ℕ) (at : 
 -- code about one instruction, which stands at any position
 pub record EmitsOne (code : Instruction → List Instruction) (i : Instr) (at : ℕ) (ws ws′ : List ℕ) (r : ℕ) : Type 0 where
   pub each : (x : Instruction) → ((k : ℕ) → real k x ≡ i) → Emits (code x) at ws ws′ r
+
+-- code that is the same wherever functions begin
+pub record EmitsAny (code : (ℕ → ℕ) → List Instruction) (at : ℕ) (ws ws′ : List ℕ) (r : ℕ) : Type 0 where
+  pub each : (entry : ℕ → ℕ) → Emits (code entry) at ws ws′ r
+
+-- an array, by its offset and its size
+abbrev pub array : ℕ → ℕ → Array
+array o s = record { offset = o; size = s }
+
+-- the unary operator with a number; past the table the last one
+unfoldable pub unaryOf : ℕ → Unary
+unaryOf o = getD (negate ∷ []) o T.not
 
 -- the strict operator with a number; past the table the last one
 unfoldable pub strictOf : ℕ → Strict

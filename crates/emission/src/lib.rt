@@ -6,6 +6,11 @@ pub mod tape; // instructions, put one before the other
 pub mod places; // where values are
 pub mod jumps; // jumps and conditions
 pub mod strict; // the strict operators
+pub mod unary; // the unary operators
+pub mod elements; // elements of arrays
+pub mod calls; // calls and the words of frames
+pub mod functions; // functions and statements, but for their expressions
+pub mod image; // the image
 
 // Where a value is: nowhere yet, in a local's word, in a temporary.
 pub enum Place {

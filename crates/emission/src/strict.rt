@@ -1,7 +1,7 @@
 // The strict operators, by their numbers in the flat form's table: as a value, as one branch, as one instruction with an immediate.
 ghost use mathlib.Core.Path.{_≡_};
 ghost use mathlib.Core.List.{_∷_};
-ghost use Prim.Native.Nat.{_≤_};
+ghost use Prim.Native.Nat.{_-_, _≤_};
 ghost use Rattle.processor.specs.declared.Alu.the-variants.{Add as AddOf};
 ghost use Rattle.processor.specs.declared.Cond.the-variants.{Ne as NeOf};
 ghost use Rattle.symbolic.specs.Symbolic.{x0, op, opi, branch, jump as jumpOf, call as callOf};
@@ -9,13 +9,16 @@ ghost use Rattle.codegen.specs.Places.{short as shortOf, target as targetOf, ke
 ghost use Rattle.word.specs.Choice.{pick};
 ghost use mathlib.Core.Option.{some, none};
 ghost use Rattle.codegen.specs.Operators.{stub, work as workOf, working as workingOf, relation as relationOf, withConstant, immediate as immediateOf, operating as operatingOf};
+ghost use Rattle.codegen.specs.Expressions.{decidingBy};
 ghost use Rattle.emission.specs.Tape.{Emits};
-ghost use Rattle.emission.specs.Macros.{placed, EmitsFor, strictOf, worked, related, immediately};
+ghost use Rattle.emission.specs.Macros.{placed, EmitsFor, EmitsAny, strictOf, worked, related, immediately};
 use crate::Immediate;
 use crate::Place;
 use crate::Relation;
 use crate::Work;
 use crate::jumps::RA;
+use crate::jumps::comparing;
+use crate::jumps::testing;
 use crate::places::fetch;
 use crate::places::keep;
 use crate::places::kept;
@@ -200,6 +203,32 @@ pub fn operating(out: &mut [u32], at: usize, o: u32, p: Place, q: Place, d: u32)
             let last = working(out, at, o, from, other, d);
             let middle = fetch(out, last, q, 1);
             fetch(out, middle, p, 0)
+        }
+    }
+}
+
+// Jumps where the truth of an operator is t: by one branch if it is one, else by its value.
+pub fn deciding(
+    out: &mut [u32],
+    at: usize,
+    near: bool,
+    t: bool,
+    o: u32,
+    p: Place,
+    q: Place,
+    d: u32,
+    to: usize,
+) -> usize
+    requires { ⌜ (at ≤ to) × (to ≤ 262144) ⌝ }
+    ensures { λ e. ⌜ EmitsAny (λ entry. decidingBy entry near (relationOf (strictOf o)) t (strictOf o) (placed p) (placed q) d (to - at)) at (now (out .entry)) (now (out .exit)) e ⌝ }
+    ensures within { λ e. ⌜ e ≤ at ⌝ }
+{
+    let one = relation(o);
+    match one {
+        Relation::One(c, turned) => comparing(out, at, near, t, c, turned, p, q, to),
+        Relation::None => {
+            let last = testing(out, at, near, t, Place::Temporary(d), to);
+            operating(out, last, o, p, q, d)
         }
     }
 }

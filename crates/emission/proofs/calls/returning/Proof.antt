@@ -1,0 +1,30 @@
+-- What is laid piece by piece.
+use native.Mathlib.Omega.{arith}
+use Rattle.emission.proofs.Calling.{returns-by}
+use Rattle.emission.proofs.calls.returning.Statement.{statement}
+use Rattle.emission.proofs.calls.returning.Tie as tie
+use borrow.Author.Needs.{needs}
+
+registers-requires : tie.Need-registers-requires
+registers-requires c κs = search needs
+
+loads-requires : tie.Need-loads-requires
+loads-requires c κs = search needs
+
+sub-t11 : tie.Need-sub-t11
+sub-t11 c = search needs
+
+sub-t12 : tie.Need-sub-t12
+sub-t12 c = search needs
+
+put-requires : tie.Need-put-requires
+put-requires c κs = search needs
+
+same-length : tie.Need-same-length
+same-length c = search needs
+
+returns : tie.Need-returns
+returns c = (returns-by (c .before .before .before .before .before .before .before .before .before .before .args .d) (c .before .before .before .before .before .before .before .before .registers .ensures .0) (c .before .before .before .before .before .before .loads .ensures .0) (c .before .before .put .ensures .0), omega arith)
+
+pub returning-spec : {M : Type 1} → statement M
+returning-spec = tie.close (tie.spec registers-requires loads-requires sub-t11 sub-t12 put-requires same-length returns)
