@@ -117,11 +117,11 @@ module _ {ws : List ℕ} {j n d at : ℕ} {us : List ℕ} where
 -- The call
 
 module _ {ws es : List ℕ} {j n d at : ℕ} {us us₁ us₂ : List ℕ} {r₁ r₂ : ℕ} where
-  pub callings : {to : ℕ} → to ≡ entryIn es (first ws j) → n ≡ second ws j → Emits (saves (registersOf d) ++ entering to d) at us us₁ r₁ → Passes ws (j - 4) n d r₁ us₁ us₂ r₂ →
+  pub callings : {to f : ℕ} → to ≡ entryIn es f → f ≡ first ws j → n ≡ second ws j → Emits (saves (registersOf d) ++ entering to d) at us us₁ r₁ → Passes ws (j - 4) n d r₁ us₁ us₂ r₂ →
       Callings ws es j d at us us₂ r₂
-  callings {to} e m s p = record {
+  callings {to} {f} e g m s p = record {
     each = λ (xs : Args) (i : ℕ) (l : LieAll ws xs i (j - 4)) (c : second ws j ≡ count xs) (h : 4 * d ≤ i).
-        subst (λ (x : ℕ). Emits (calling x (placesOf xs d) d) at us us₂ r₂) e (after s (p .each xs i l (sym c ∙ sym m) h));
+        subst (λ (x : ℕ). Emits (calling x (placesOf xs d) d) at us us₂ r₂) (e ∙ ap (entryIn es) g) (after s (p .each xs i l (sym c ∙ sym m) h));
   }
 
   pub calls : {near : Bool} → n ≡ second ws j → Callings ws es j d at us us₁ r₁ → Arguments ws es near (j - 4) n d r₁ us₁ us₂ r₂ → Calls ws es near j d at us us₂ r₂

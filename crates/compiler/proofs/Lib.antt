@@ -6,3 +6,5 @@ pub mod Arguments
 pub mod Valuing
 pub mod Deciding
 pub mod Calling
+pub mod Placing
+pub mod Stating

@@ -12,7 +12,7 @@ use Rattle.flat.specs.Words.{word, unaryNumber, strictNumber}
 use Rattle.codegen.specs.Owed.{count}
 use Rattle.compiler.specs.Lies.{Ends, first, second, Lies, number, local, element, call, unary, strict, and, or, LieAll, none, more}
 
-array-is : (a : Array) {x y : ℕ} → x ≡ a .offset → y ≡ a .size → _≡_ {A = Array} a (record { offset = x; size = y })
+pub array-is : (a : Array) {x y : ℕ} → x ≡ a .offset → y ≡ a .size → _≡_ {A = Array} a (record { offset = x; size = y })
 array-is a {x} e f = ap (λ (o : ℕ). record { offset = o; size = a .size }) (sym e) ∙ ap (λ (s : ℕ). record { offset = x; size = s }) (sym f)
 
 -- `&&` and `||`: which of the two, the item between the sides says
