@@ -6,9 +6,12 @@ use mathlib.Core.Bool.{Bool, true, false}
 use mathlib.Core.Bool as B
 use mathlib.Core.List.{List, [], _∷_, _++_, append-assoc}
 use mathlib.Core.Option.{Option, none, some}
+use types.Run.{OneOf, miss}
+use denote.Enum.Declared.{tagOf}
 use lib.Dec.{eqb}
 use lib.ListN.{length, length-append}
-use Rattle.word.specs.Choice.{pick}
+use borrow.Author.Tests.{eqb-true, eq-eqb}
+use Rattle.word.specs.Choice.{pick, both}
 use Rattle.processor.specs.declared.Cond.{Cond}
 use Rattle.processor.specs.declared.Cond.the-variants.{Ne}
 use Rattle.language.specs.Tree.{Unary, Strict, eq, ne, lt, le, gt, ge, add, sub, mul, div, rem}
@@ -22,13 +25,16 @@ use Rattle.codegen.specs.Places.{Place, local, temporary, above}
 use Rattle.codegen.specs.Operators.{skip, sense, operating, applying, result, relation, comparing, testing, always, reading}
 use Rattle.codegen.specs.Expressions.{placeOf, placesOf, code, codes, condition, calling, decidingBy}
 use Rattle.emission.specs.Tape.{Emits}
-use Rattle.emission.specs.Macros.{strictOf}
+use Rattle.emission.proofs.Relation as Related
+use Rattle.emission.specs.declared.Relation.{Relation}
+use Rattle.emission.specs.declared.Relation.the-variants as R
+use Rattle.emission.specs.Macros.{strictOf, related}
 use Rattle.emission.proofs.Laws.{after, after-if}
 use Rattle.compiler.specs.Lies.{first, second, Lies, LieAll}
 use Rattle.compiler.specs.Lies as L
 use Rattle.compiler.specs.Post.{Starts, PlaceAt, SidesAt, RelationAt, Compares, entryIn, Values, Conditions, Calls, agree}
 use Rattle.compiler.proofs.Views.{NumberAt, CallAt, UnaryAt, StrictAt, JoinAt, joining, is-number, is-call, is-unary, is-strict, is-join, ends, starts}
-use Rattle.compiler.proofs.Valuing.{next-room, room-small, other-is}
+use Rattle.compiler.proofs.Valuing.{next-room, room-small, other-is, broken}
 
 -- of a condition that is to be put before `at`, `part` is left, to be put before `at′`
 pub record Heading (ws es : List ℕ) (near : Bool) (d : ℕ) (e : Expr) (t : Bool) (i at to : ℕ) (us : List ℕ) (t′ : Bool) (j at′ to′ : ℕ) (us′ : List ℕ) : Type 0 where
@@ -86,6 +92,9 @@ heads-not ws es near d t j at to us k n = record { each = λ (e : Expr) (i : ℕ
           subst⁻¹ (λ (x : Expr). Emits (condition (entryIn es) near x t d (to - at)) at us us″ r) (v .is ∙ ap (λ (o : Unary). C.unary o (v .a)) (not-is (v .o) (sym (v .operator) ∙ n))) z;
     }
 
+clash : false ≡ true → _≡_ {A = ℕ} 0 1
+clash h = cc
+
 -- `&&` and `||`
 
 module _ (entry : ℕ → ℕ) (near : Bool) (a b : Expr) (d k : ℕ) where
@@ -125,6 +134,31 @@ heads-join ws es near d t j mid at to us {us₁} {o} {r₁} ahead k st eo c = re
         subst⁻¹ (λ (x : Expr). Heading ws es near d x t i at to us o (mid - 4) r₁ (pick (agree t o) to at) us₁) (w .is ∙ ap (λ (x : Bool). joining x (w .a) (w .b)) (sym (eo ∙ other-is ws mid w f)))
         (sided (w .a) (w .b) h (subst⁻¹ (λ (m : ℕ). Lies ws (w .a) i (m - 4)) f (w .left)) (subst⁻¹ (λ (m : ℕ). Lies ws (w .b) m (j - 4)) f (w .right)) (omega (arith, f, w .between .enough)))
 
+pub heads-aimed : {ws es : List ℕ} {near : Bool} {d : ℕ} {t : Bool} {j₀ at to : ℕ} {us : List ℕ} {t′ : Bool} {j at′ g h : ℕ} {us′ : List ℕ} → g ≡ h → Heads ws es near d t j₀ at to us t′ j at′ h us′ →
+    Heads ws es near d t j₀ at to us t′ j at′ g us′
+heads-aimed {ws} {es} {near} {d} {t} {j₀} {at} {to} {us} {t′} {j} {at′} {us′ = us′} e s = subst⁻¹ (λ (k : ℕ). Heads ws es near d t j₀ at to us t′ j at′ k us′) e s
+
+-- it is ahead of what is put next, and no further than before
+pub aimed : (b : Bool) {at to r g : ℕ} → at ≤ to → r ≤ at → g ≡ pick b to at → (r ≤ g) × (g ≤ to)
+aimed true h l e = (omega arith, omega arith)
+aimed false h l e = (omega arith, omega arith)
+
+pub condition-broken : (ws es : List ℕ) (near t : Bool) (d j mid at to : ℕ) {us : List ℕ} → word ws (j - 4) ≡ 8 → Starts ws (j - 4) mid → mid < 4 → Conditions ws es near t j d at to us us at
+condition-broken ws es near t d j mid at to k st h = record { each = λ (e : Expr) (i : ℕ) (l : Lies ws e i j) (b : 4 * d ≤ i). broken l k st h }
+
+-- `!` is known by two words
+
+pub are-both : (x y : ℕ) → both (eqb x 4) (eqb y 1) ≡ true → (x ≡ 4) × (y ≡ 1)
+are-both x y h = by (eqb x 4) (eqb y 1) h refl refl
+  where
+    by : (a b : Bool) → both a b ≡ true → eqb x 4 ≡ a → eqb y 1 ≡ b → (x ≡ 4) × (y ≡ 1)
+    by true true h e f = (eqb-true x 4 e, eqb-true y 1 f)
+    by true false h e f = let z : _≡_ {A = ℕ} 0 1 = clash h in absurd (omega arith)
+    by false b h e f = let z : _≡_ {A = ℕ} 0 1 = clash h in absurd (omega arith)
+
+pub not-both : (x y : ℕ) → both (eqb x 4) (eqb y 1) ≡ false → x ≡ 4 → y ≡ 1 → ⊥
+not-both x y h e f = let z : _≡_ {A = ℕ} 0 1 = clash (sym h ∙ ap (λ (b : Bool). both b (eqb y 1)) (eq-eqb x 4 e) ∙ eq-eqb y 1 f) in omega arith
+
 -- Everything else
 
 pub strict-back : (o : Strict) → strictOf (strictNumber o) ≡ o
@@ -145,12 +179,12 @@ pub condition-nowhere : (ws es : List ℕ) (near t : Bool) (d j at to : ℕ) {us
 condition-nowhere ws es near t d j at to h = record { each = λ (x : Expr) (i : ℕ) (l : Lies ws x i j) (b : 4 * d ≤ i). absurd (omega (arith, ends l)) }
 
 module _ (ws es : List ℕ) (near t : Bool) (d j at to : ℕ) {us us₁ : List ℕ} {r₁ : ℕ} where
-  pub condition-number : word ws (j - 4) ≡ 0 → Emits (always t (first ws j) (to - at)) at us us₁ r₁ → Conditions ws es near t j d at to us us₁ r₁
+  pub condition-number : {n : ℕ} → word ws (j - 4) ≡ 0 → n ≡ first ws j → Emits (always t n (to - at)) at us us₁ r₁ → Conditions ws es near t j d at to us us₁ r₁
   unfolding condition
-  condition-number k s = record { each = λ (e : Expr) (i : ℕ) (l : Lies ws e i j) (h : 4 * d ≤ i). by (is-number l k) }
+  condition-number {n} k f s = record { each = λ (e : Expr) (i : ℕ) (l : Lies ws e i j) (h : 4 * d ≤ i). by (is-number l k) }
     where
       by : {e : Expr} {i : ℕ} → NumberAt ws i j e → Emits (condition (entryIn es) near e t d (to - at)) at us us₁ r₁
-      by v = subst⁻¹ (λ (x : Expr). Emits (condition (entryIn es) near x t d (to - at)) at us us₁ r₁) (v .is) s
+      by v = subst⁻¹ (λ (x : Expr). Emits (condition (entryIn es) near x t d (to - at)) at us us₁ r₁) (v .is) (subst (λ (m : ℕ). Emits (always t m (to - at)) at us us₁ r₁) f s)
 
   pub condition-call : {us₂ : List ℕ} {r₂ : ℕ} → word ws (j - 4) ≡ 3 → Emits (skip near (sense t Ne) answer x0 (to - at)) at us us₁ r₁ → Calls ws es near j d r₁ us₁ us₂ r₂ →
       Conditions ws es near t j d at to us us₂ r₂
@@ -223,3 +257,8 @@ module _ (ws es : List ℕ) (near t : Bool) (d j at to : ℕ) {us us₁ : List �
       by (L.strict {o} {a} {b} k p l r) f = strictly o a b (related o (k .kind) p) f
       by (L.and k l p r) f = absurd (o (k .kind))
       by (L.or k l p r) f = absurd (o (k .kind))
+
+-- no one branch
+pub related-none : (r : Relation) → OneOf (1 ∷ []) (tagOf Related.the-type r) → related r ≡ none
+related-none (R.One c t) h = absurd (miss (1 ∷ []) 0 tt h)
+related-none R.None h = refl

@@ -150,6 +150,13 @@ other-is ws m v h = ap (λ (k : ℕ). eqb (word ws (k - 4)) 7) h ∙ ap (λ (w :
     picked true = refl
     picked false = refl
 
+-- both sides of it end somewhere
+pub broken : {A : Type 0} {ws : List ℕ} {e : Expr} {i j mid : ℕ} → Lies ws e i j → word ws (j - 4) ≡ 8 → Starts ws (j - 4) mid → mid < 4 → A
+broken {A} {ws} {e} {i} {j} {mid} l k st h = by (is-join l k)
+  where
+    by : JoinAt ws i j e → A
+    by w = absurd (omega (arith, st .each (w .b) (w .middle) (w .right), w .between .enough))
+
 module _ (entry : ℕ → ℕ) (near o : Bool) (d : ℕ) (a b : Expr) where
   -- the right side, and what is behind it
   abbrev pub righted : List Instruction
@@ -180,15 +187,15 @@ module _ (entry : ℕ → ℕ) (near o : Bool) (d : ℕ) (a b : Expr) where
           subst (λ (n : ℕ). Emits (condition entry near a o d n) p₃ us₄ us₅ r) {x = p₀ - p₃} {y = suc (length righted)}
           (omega (arith, s .position, t .position, after m v .position, length-append righted (jump (suc (length settled)) ∷ settled))) c)
 
-pub value-join : (ws es : List ℕ) (near : Bool) (d j mid : ℕ) {at p₀ p₁ p₂ p₃ r : ℕ} {us us₁ us₂ us₃ us₄ us₅ : List ℕ} {o : Bool} {p : Place} → word ws (j - 4) ≡ 8 → Starts ws (j - 4) mid →
-    o ≡ eqb (word ws (mid - 4)) 7 → PlaceAt ws (j - 4) d p → Emits (settle (pick o 1 0) d) at us us₁ p₀ → Emits (jump (suc (at - p₀)) ∷ []) p₀ us₁ us₂ p₁ → Emits (move p d) p₁ us₂ us₃ p₂ →
+pub value-join : (ws es : List ℕ) (near : Bool) (d j mid : ℕ) {at p₀ p₁ p₂ p₃ r : ℕ} {us us₁ us₂ us₃ us₄ us₅ : List ℕ} {o : Bool} {p : Place} {bit : ℕ} → word ws (j - 4) ≡ 8 → Starts ws (j - 4) mid →
+    o ≡ eqb (word ws (mid - 4)) 7 → PlaceAt ws (j - 4) d p → bit ≡ pick o 1 0 → Emits (settle bit d) at us us₁ p₀ → Emits (jump (suc (at - p₀)) ∷ []) p₀ us₁ us₂ p₁ → Emits (move p d) p₁ us₂ us₃ p₂ →
     Values ws es near (j - 4) d p₂ us₃ us₄ p₃ → Conditions ws es near o (mid - 4) d p₃ p₀ us₄ us₅ r → Values ws es near j d at us us₅ r
-value-join ws es near d j mid {at} {p₀} {p₁} {p₂} {p₃} {r} {us} {us₁} {us₂} {us₃} {us₄} {us₅} {o} {p} k st eo pl s t m v c =
+value-join ws es near d j mid {at} {p₀} {p₁} {p₂} {p₃} {r} {us} {us₁} {us₂} {us₃} {us₄} {us₅} {o} {p} {bit} k st eo pl eb s t m v c =
     record { each = λ (e : Expr) (i : ℕ) (l : Lies ws e i j) (h : 4 * d ≤ i). by h (is-join l k) }
   where
     sided : (a b : Expr) {i : ℕ} → 4 * d ≤ i → Lies ws a i (mid - 4) → Lies ws b mid (j - 4) → 4 ≤ mid → Emits (code (entryIn es) near (joining o a b) d) at us us₅ r
     sided a b {i} h la lb e =
-        joins (entryIn es) near o d a b s t (subst (λ (q : Place). Emits (move q d) p₁ us₂ us₃ p₂) (pl .each b mid lb) m) (v .each b mid lb (omega (arith, starts la))) (c .each a i la h)
+        joins (entryIn es) near o d a b (subst (λ (n : ℕ). Emits (settle n d) at us us₁ p₀) eb s) t (subst (λ (q : Place). Emits (move q d) p₁ us₂ us₃ p₂) (pl .each b mid lb) m) (v .each b mid lb (omega (arith, starts la))) (c .each a i la h)
 
     at-middle : {e : Expr} {i : ℕ} → 4 * d ≤ i → (w : JoinAt ws i j e) → mid ≡ w .middle → Emits (code (entryIn es) near (joining o (w .a) (w .b)) d) at us us₅ r
     at-middle {i = i} h w f =
@@ -199,3 +206,13 @@ value-join ws es near d j mid {at} {p₀} {p₁} {p₂} {p₃} {r} {us} {us₁} 
         let f : mid ≡ w .middle = st .each (w .b) (w .middle) (w .right) in
         subst⁻¹ (λ (x : Expr). Emits (code (entryIn es) near x d) at us us₅ r) (w .is)
         (subst (λ (x : Bool). Emits (code (entryIn es) near (joining x (w .a) (w .b)) d) at us us₅ r) (eo ∙ other-is ws mid w f) (at-middle h w f))
+
+pub value-broken : (ws es : List ℕ) (near : Bool) (d j mid at : ℕ) {us : List ℕ} → word ws (j - 4) ≡ 8 → Starts ws (j - 4) mid → mid < 4 → Values ws es near j d at us us at
+value-broken ws es near d j mid at k st h = record { each = λ (e : Expr) (i : ℕ) (l : Lies ws e i j) (b : 4 * d ≤ i). broken l k st h }
+
+-- the number of a truth
+pub bit-true : {o : Bool} {v : ℕ} → o ≡ true → v ≡ 1 → v ≡ pick o 1 0
+bit-true e f = f ∙ sym (ap (λ (b : Bool). pick b 1 0) e)
+
+pub bit-false : {o : Bool} {v : ℕ} → o ≡ false → v ≡ 0 → v ≡ pick o 1 0
+bit-false e f = f ∙ sym (ap (λ (b : Bool). pick b 1 0) e)

@@ -4,3 +4,4 @@ pub mod items; // items, by the position behind them, and where an expression st
 pub mod places; // where values are
 pub mod own; // an item's own code
 pub mod calls; // calls and their arguments
+pub mod values; // expressions, as values and as conditions
