@@ -1,9 +1,8 @@
 -- Elements are their definitions', where the index is known to be inside and where it is tested.
-use Prim.Native.Nat.{ℕ, zero, suc, _+_, _-_, _≤_, _<_}
-use native.Mathlib.Omega.{arith}
-use mathlib.Core.Path.{_≡_, refl, sym, ap, _∙_, subst, subst⁻¹}
+use Prim.Native.Nat.{ℕ, _+_, _-_}
+use mathlib.Core.Path.{_≡_, refl, sym, ap, _∙_, subst}
 use mathlib.Core.Bool.{Bool, true, false}
-use mathlib.Core.List.{List, [], _∷_, _++_}
+use mathlib.Core.List.{List}
 use lib.Dec.{ltb}
 use Rattle.word.specs.Choice.{pick}
 use Rattle.processor.specs.declared.Alu.the-variants.{Add, Sll}
@@ -11,11 +10,11 @@ use Rattle.processor.specs.declared.Cond.the-variants.{Ltu}
 use Rattle.processor.specs.declared.Width.the-variants.{Word}
 use Rattle.processor.specs.declared.Instr.the-variants.{Lui, Jal, Branch, Load, Store, Shift, Op}
 use Rattle.language.specs.Core.{Array}
-use Rattle.symbolic.specs.Symbolic.{Reg, number, scratch, Instruction, lui, op, shift, lw, sw, branch, call}
+use Rattle.symbolic.specs.Symbolic.{number, scratch}
 use Rattle.symbolic.specs.Real.{distance}
 use Rattle.codegen.specs.Places as P
 use Rattle.codegen.specs.Places.{upperOf, lowerOf, constantTo, source, fetch, target, keep}
-use Rattle.codegen.specs.Operators.{stub, address, inside, index, indexed, locate, locateBy, offset, reading, writing}
+use Rattle.codegen.specs.Operators.{address, inside, index, indexed, locate, locateBy, offset, reading, writing}
 use Rattle.emission.specs.declared.Place.{Place}
 use Rattle.emission.specs.declared.Place.the-variants as At
 use Rattle.emission.specs.Tape.{Puts, Emits}

@@ -1,17 +1,17 @@
 -- Calls are their definitions', register by register and argument by argument.
-use Prim.Native.Nat.{ℕ, zero, suc, _+_, _-_, _*_, _^_, _≤_, _<_}
+use Prim.Native.Nat.{ℕ, suc, _+_, _-_, _*_, _≤_, _<_}
 use native.Mathlib.Omega.{arith}
-use mathlib.Core.Path.{_≡_, refl, sym, ap, _∙_, subst, subst⁻¹}
-use mathlib.Core.Bool.{Bool, true, false}
+use mathlib.Core.Path.{_≡_, refl, sym, ap, subst, subst⁻¹}
+use mathlib.Core.Bool.{Bool}
 use mathlib.Core.List.{List, [], _∷_, _++_}
 use borrow.Author.Tests.{lt-ltb, le-ltb}
 use Rattle.word.specs.Choice.{pick}
 use Rattle.processor.specs.declared.Alu.the-variants.{Add}
 use Rattle.processor.specs.declared.Instr.the-variants.{Jal, OpImm}
-use Rattle.symbolic.specs.Symbolic.{Reg, number, x0, reg, Temporary, sp, answer, Instruction, mv, lw, sw, opi, call}
+use Rattle.symbolic.specs.Symbolic.{number, x0, reg, Temporary, sp, answer, Instruction, mv, lw, sw}
 use Rattle.symbolic.specs.Real.{distance}
 use Rattle.codegen.specs.Places as P
-use Rattle.codegen.specs.Places.{frame-bytes, localWord, temporaryWord, source, fetch, target, keep}
+use Rattle.codegen.specs.Places.{frame-bytes, localWord, source, fetch, target, keep}
 use Rattle.codegen.specs.Expressions.{passes, saves, loads, registersOf, returning, entering}
 use Rattle.codegen.specs.Statements.{clears}
 use Rattle.emission.specs.Tape.{Puts, Emits}

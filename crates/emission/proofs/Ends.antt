@@ -1,13 +1,12 @@
 -- What functions and the image begin and end with is their definitions'.
-use Prim.Native.Nat.{ℕ, zero, suc, _+_, _-_, _*_, _≤_, _<_}
-use native.Mathlib.Omega.{arith}
-use mathlib.Core.Path.{_≡_, refl, sym, ap, _∙_}
-use mathlib.Core.List.{List, [], _∷_, _++_}
+use Prim.Native.Nat.{ℕ, _+_, _-_}
+use mathlib.Core.Path.{_≡_, refl, sym, ap}
+use mathlib.Core.List.{List, [], _∷_}
 use Rattle.processor.specs.declared.Alu.the-variants.{Add}
 use Rattle.processor.specs.declared.Cond.the-variants.{Ne}
 use Rattle.processor.specs.declared.Instr.the-variants.{Lui, Jal, Jalr, Branch, OpImm, Ecall}
 use Rattle.language.specs.Meaning.{division-by-zero, index-outside, too-many-activations}
-use Rattle.symbolic.specs.Symbolic.{x0, ra, sp, answer, request, Instruction, lui, opi, lw, sw, branch, call, ecall}
+use Rattle.symbolic.specs.Symbolic.{x0, ra, sp, answer, request, opi, lw, sw, branch, call, ecall}
 use Rattle.symbolic.specs.Real.{distance}
 use Rattle.codegen.specs.Operators.{stub, trapping}
 use Rattle.codegen.specs.Statements.{limit, leaving}

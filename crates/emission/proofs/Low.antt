@@ -1,17 +1,16 @@
 -- An immediate of 12 bits may be given by its remainder: the formats I and S take no more of it.
-use Prim.Native.Nat.{ℕ, zero, suc, _+_, _-_, _*_, _/_, _%_, _^_, _<_}
+use Prim.Native.Nat.{ℕ, zero, suc, _/_, _%_}
 use native.Mathlib.Omega.{arith}
 use mathlib.Core.Path.{_≡_, refl, sym, ap, _∙_}
-use mathlib.Core.List.{List, [], _∷_, _++_}
+use mathlib.Core.List.{List, [], _∷_}
 use lib.ListN.{set}
-use Rattle.processor.specs.declared.Width.{Width}
 use Rattle.processor.specs.declared.Width.the-variants.{Word}
 use Rattle.processor.specs.declared.Instr.{Instr}
 use Rattle.processor.specs.declared.Instr.the-variants.{Load, Store}
-use Rattle.processor.specs.Formats.{iWord, sWord, rWord, low, bits}
+use Rattle.processor.specs.Formats.{iWord, sWord, rWord}
 use Rattle.processor.specs.Instructions.{encodeOf}
-use Rattle.symbolic.specs.Symbolic.{Instruction, Reg, number, sp, lw, sw}
-use Rattle.emission.specs.Tape.{Tape, tape, putting, Puts, Emits}
+use Rattle.symbolic.specs.Symbolic.{Reg, number, sp, lw, sw}
+use Rattle.emission.specs.Tape.{tape, putting, Puts}
 use Rattle.emission.specs.Macros.{EmitsAt}
 use Rattle.emission.proofs.Laws.{last}
 

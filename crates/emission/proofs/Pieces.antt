@@ -4,13 +4,13 @@ use native.Mathlib.Omega.{arith}
 use mathlib.Core.Path.{_≡_, refl, sym, ap, _∙_, subst, subst⁻¹}
 use mathlib.Core.Bool.{Bool, true, false}
 use mathlib.Core.List.{List, [], _∷_, _++_}
-use borrow.Author.Tests.{lt-ltb, le-ltb, le-leb, lt-leb}
-use lib.Dec.{ltb, leb}
+use borrow.Author.Tests.{lt-ltb, le-ltb}
+use lib.Dec.{leb}
 use Rattle.word.specs.Choice.{pick, either}
 use Rattle.processor.specs.declared.Alu.the-variants.{Add}
 use Rattle.processor.specs.declared.Instr.{Instr}
 use Rattle.processor.specs.declared.Instr.the-variants.{OpImm, Lui}
-use Rattle.symbolic.specs.Symbolic.{Reg, number, reg, Temporary, scratch, sp, answer, Instruction, lw, sw, mv, opi, lui, x0}
+use Rattle.symbolic.specs.Symbolic.{Reg, number, reg, Temporary, scratch, sp, answer, Instruction, lw, sw, mv}
 use Rattle.symbolic.specs.Real.{real}
 use Rattle.codegen.specs.Places as P
 use Rattle.codegen.specs.Places.{short, upperOf, lowerOf, constantTo, constantBy, source, fetch, target, keep, settle, move, bring}

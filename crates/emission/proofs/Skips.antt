@@ -1,22 +1,21 @@
--- Jumps and conditions are their definitions', case by case.
-use Prim.Native.Nat.{ℕ, zero, suc, _+_, _-_, _*_, _≤_, _<_}
+-- Jumps, loops and conditions are their definitions', case by case.
+use Prim.Native.Nat.{ℕ, zero, suc, _+_, _-_, _≤_, _<_}
 use native.Mathlib.Omega.{arith}
 use mathlib.Core.Path.{_≡_, refl, sym, ap, _∙_, subst, subst⁻¹}
 use mathlib.Core.Bool.{Bool, true, false}
-use mathlib.Core.List.{List, [], _∷_, _++_}
-use Rattle.word.specs.Choice.{pick}
+use mathlib.Core.List.{List, [], _∷_, _++_, append-assoc}
+use lib.ListN.{length, length-append}
 use Rattle.processor.specs.declared.Cond.{Cond}
 use Rattle.processor.specs.declared.Cond.the-variants.{Ne}
-use Rattle.processor.specs.declared.Instr.{Instr}
 use Rattle.processor.specs.declared.Instr.the-variants.{Branch, Jal}
-use Rattle.symbolic.specs.Symbolic.{Reg, number, x0, answer, Instruction, branch, jump}
-use Rattle.symbolic.specs.Real.{real, distance}
+use Rattle.symbolic.specs.Symbolic.{Reg, number, x0, answer, Instruction, jump, jumpBack}
+use Rattle.symbolic.specs.Real.{distance}
 use Rattle.codegen.specs.Places as P
 use Rattle.codegen.specs.Places.{source, fetch}
-use Rattle.codegen.specs.Operators.{opposite, skip, sense, testing, comparing, always, left, right}
+use Rattle.codegen.specs.Operators.{opposite, skip, sense, testing, comparing, always}
 use Rattle.emission.specs.Tape.{Puts, Emits}
 use Rattle.emission.specs.Macros.{EmitsFor}
-use Rattle.emission.proofs.Laws.{none, one, last-if, after}
+use Rattle.emission.proofs.Laws.{put-at, none, one, last-if, after, after-if, filled}
 
 ahead : (at to : ℕ) {b : ℕ} → at ≤ to → b ≡ distance (at - 1) to → 0 < at → distance (at - 1) (at - 1 + suc (to - at)) ≡ b
 ahead at to l e h = ap (λ (m : ℕ). distance (at - 1) m) (omega arith) ∙ sym e
@@ -25,10 +24,27 @@ pub jumped : (to : ℕ) {b at r : ℕ} {ws ws′ : List ℕ} → at ≤ to → b
 jumped to {b} {at} l e h = last-if (λ (n : 0 < at). ap (λ (x : ℕ). Jal 0 x) (ahead at to l e n)) h
 
 pub jumps-back : (start : ℕ) {b at r : ℕ} {ws ws′ : List ℕ} → b ≡ distance (at - 1) start → Puts (Jal 0 b) at ws ws′ r →
-    Puts (Jal 0 (distance (at - 1) start)) at ws ws′ r
-jumps-back start {b} {at} {r} {ws} {ws′} e h = subst (λ (x : ℕ). Puts (Jal 0 x) at ws ws′ r) e h
+    Puts (Jal 0 (distance (at - 1) start)) at ws ws′ (at - 1)
+jumps-back start {b} {at} {r} {ws} {ws′} e h =
+    subst (λ (x : ℕ). Puts (Jal 0 x) at ws ws′ (at - 1)) e (subst (λ (k : ℕ). Puts (Jal 0 b) at ws ws′ k) (put-at h) h)
 
-registers : {c : Cond} {m n a b : ℕ} {x y : ℕ} → m ≡ a → n ≡ b → x ≡ y → Branch c m n x ≡ Branch c a b y
+-- a loop: what was emitted before its last word, and then the jump back to where that begins
+pub looped : (a b : List Instruction) {at r : ℕ} {ws ws₁ ws₂ : List ℕ} → Emits (a ++ b) (at - 1) ws ws₁ r → Puts (Jal 0 (distance (at - 1) r)) at ws₁ ws₂ (at - 1) →
+    Emits (a ++ (b ++ (jumpBack (length a + length b) ∷ []))) at ws ws₂ r
+looped a b {at} {r} {ws} {ws₁} {ws₂} e h =
+    let back : at - 1 - (length a + length b) ≡ r = omega (arith, e .position, length-append a b) in
+    subst (λ (c : List Instruction). Emits c at ws ws₂ r) (append-assoc a b (jumpBack (length a + length b) ∷ []))
+    (filled (a ++ b) (jumpBack (length a + length b)) (Jal 0 (distance (at - 1) r)) e (ap (λ (x : ℕ). Jal 0 (distance (at - 1) x)) back) h)
+
+-- code, and before it the jump over it
+pub jumped-over : (c : List Instruction) {at r₁ r₂ : ℕ} {ws ws₁ ws₂ : List ℕ} → Emits c at ws ws₁ r₁ → r₂ ≤ r₁ → Emits (jump (suc (at - r₁)) ∷ []) r₁ ws₁ ws₂ r₂ →
+    Emits (jump (suc (length c)) ∷ c) at ws ws₂ r₂
+jumped-over c {at} {r₁} {r₂} {ws} {ws₁} {ws₂} e l f =
+    after-if e l (λ (h : length c ≤ at).
+    let over : at - r₁ ≡ length c = omega (arith, e .position) in
+    subst (λ (k : ℕ). Emits (jump (suc k) ∷ []) r₁ ws₁ ws₂ r₂) over f)
+
+pub registers : {c : Cond} {m n a b : ℕ} {x y : ℕ} → m ≡ a → n ≡ b → x ≡ y → Branch c m n x ≡ Branch c a b y
 registers {c} {m} {n} {a} {b} {x} {y} f g h = ap (λ (z : ℕ). Branch c z n x) f ∙ ap (λ (z : ℕ). Branch c a z x) g ∙ ap (λ (z : ℕ). Branch c a b z) h
 
 pub skip-near : (to : ℕ) {near : Bool} {c : Cond} {b m n at r : ℕ} {ws ws′ : List ℕ} → near ≡ true → at ≤ to → b ≡ distance (at - 1) to →

@@ -1,21 +1,20 @@
 -- The strict operators are their definitions', case by case.
-use Prim.Native.Nat.{ℕ, zero, suc, _+_, _-_, _*_, _≤_, _<_}
+use Prim.Native.Nat.{ℕ, zero, suc, _+_, _-_, _≤_}
 use native.Mathlib.Omega.{arith}
-use mathlib.Core.Path.{_≡_, refl, sym, ap, _∙_, subst, subst⁻¹}
+use mathlib.Core.Path.{_≡_, refl, sym, ap, _∙_, subst}
 use mathlib.Core.Bool.{Bool, true, false}
 use mathlib.Core.List.{List, [], _∷_, _++_}
 use mathlib.Core.Option.{Option, none, some}
-use lib.ListN.{length, getD, List·getD-eq-default}
+use lib.ListN.{List·getD-eq-default}
 use Rattle.word.specs.Choice.{pick}
 use Rattle.processor.specs.declared.Alu.{Alu}
 use Rattle.processor.specs.declared.Alu.the-variants.{Add}
 use Rattle.processor.specs.declared.Cond.{Cond}
 use Rattle.processor.specs.declared.Cond.the-variants.{Ne}
-use Rattle.processor.specs.declared.Instr.{Instr}
 use Rattle.processor.specs.declared.Instr.the-variants.{Branch, Jal, Op, OpImm}
 use Rattle.language.specs.Tree.{Strict, eq, ne, lt, le, gt, ge, add, sub, mul, div, rem}
-use Rattle.symbolic.specs.Symbolic.{Reg, number, x0, Instruction, branch, jump, call, op, opi}
-use Rattle.symbolic.specs.Real.{real, distance}
+use Rattle.symbolic.specs.Symbolic.{Reg, number, x0, branch, jump, call, op, opi}
+use Rattle.symbolic.specs.Real.{distance}
 use Rattle.codegen.specs.Places as P
 use Rattle.codegen.specs.Places.{short, source, fetch, target, keep}
 use Rattle.codegen.specs.Operators as O
@@ -29,8 +28,8 @@ use Rattle.emission.specs.declared.Immediate.{Immediate}
 use Rattle.emission.specs.declared.Immediate.the-variants as I
 use Rattle.emission.specs.Tape.{Puts, Emits}
 use Rattle.emission.specs.Macros.{strictOf, worked, related, immediately, EmitsFor, EmitsOne, EmitsAny}
-use Rattle.emission.proofs.Laws as L
-use Rattle.emission.proofs.Laws.{one, last, after}
+use Rattle.emission.proofs.Laws.{one, after}
+use Rattle.emission.proofs.Skips.{registers}
 
 -- Numbers that miss every arm of a match: none of those below n.
 abbrev pub Misses : ℕ → ℕ → Type 0
@@ -62,9 +61,6 @@ is-long o n e = ap (λ (b : Bool). pick b (with-it o n) none) (sym e)
 
 ops : {o : Alu} {t m n a b c : ℕ} → t ≡ a → m ≡ b → n ≡ c → Op o t m n ≡ Op o a b c
 ops {o} {t} {m} {n} {a} {b} {c} f g h = ap (λ (z : ℕ). Op o z m n) f ∙ ap (λ (z : ℕ). Op o a z n) g ∙ ap (λ (z : ℕ). Op o a b z) h
-
-registers : {c : Cond} {m n a b : ℕ} {x y : ℕ} → m ≡ a → n ≡ b → x ≡ y → Branch c m n x ≡ Branch c a b y
-registers {c} {m} {n} {a} {b} {x} {y} f g h = ap (λ (z : ℕ). Branch c z n x) f ∙ ap (λ (z : ℕ). Branch c a z x) g ∙ ap (λ (z : ℕ). Branch c a b z) h
 
 pub plain-laid : (d : ℕ) {o : Alu} {t m n at r₁ r₂ : ℕ} {ws ws₁ ws₂ : List ℕ} → t ≡ number (target d) → Emits (keep d) at ws ws₁ r₁ → Puts (Op o t m n) r₁ ws₁ ws₂ r₂ →
     EmitsFor (λ p q. op o (target d) p q ∷ keep d) m n at ws ws₂ r₂

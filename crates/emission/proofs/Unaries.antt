@@ -1,19 +1,17 @@
 -- The unary operators are their definitions', case by case.
-use Prim.Native.Nat.{ℕ, zero, suc, _+_, _-_, _≤_, _<_}
-use native.Mathlib.Omega.{arith}
-use mathlib.Core.Path.{_≡_, refl, sym, ap, _∙_, subst, subst⁻¹}
+use Prim.Native.Nat.{ℕ, zero, suc}
+use mathlib.Core.Path.{_≡_, refl, sym, ap, _∙_, subst⁻¹}
 use mathlib.Core.Bool.{Bool, true, false}
-use mathlib.Core.List.{List, [], _∷_, _++_}
+use mathlib.Core.List.{List, _∷_, _++_}
 use borrow.Author.Tests.{eq-eqb, ne-eqb}
 use lib.Dec.{eqb}
 use Rattle.word.specs.Word.{negW, bitOf}
 use Rattle.processor.specs.declared.Alu.the-variants.{Sub, Sltu}
-use Rattle.processor.specs.declared.Instr.{Instr}
 use Rattle.processor.specs.declared.Instr.the-variants.{Op, OpImm}
 use Rattle.language.specs.Tree as T
 use Rattle.language.specs.Tree.{Unary, negate}
 use Rattle.language.specs.Meaning.{apply}
-use Rattle.symbolic.specs.Symbolic.{number, x0, Instruction, op, opi}
+use Rattle.symbolic.specs.Symbolic.{number, x0, op, opi}
 use Rattle.codegen.specs.Places as P
 use Rattle.codegen.specs.Places.{source, fetch, target, keep}
 use Rattle.codegen.specs.Operators.{result, alone, applying}

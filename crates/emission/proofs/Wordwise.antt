@@ -1,11 +1,15 @@
 -- Words become bytes one after the other.
-use Prim.Native.Nat.{ℕ, zero, suc, _+_, _-_, _*_, _≤_, _<_}
+use Prim.Native.Nat.{ℕ, suc, _+_, _*_, _≤_, _<_}
 use native.Mathlib.Omega.{arith}
-use mathlib.Core.Path.{_≡_, refl, sym, ap, _∙_, subst}
+use mathlib.Core.Path.{_≡_, refl, sym, ap, _∙_}
 use mathlib.Core.List.{List, [], _∷_, _++_, append-assoc}
-use lib.ListN.{length, set, take, drop, getD, length-append, length-take, length-drop}
-use lib.Seq.{sets, sets-eq, take-suc, take-at, drop-at, drop-drop, length-take-le, drop-append-add}
+use lib.ListN.{length, set, take, drop, getD, length-append, length-drop}
+use lib.Seq.{sets, sets-eq, take-suc, take-at, drop-drop, length-take-le, drop-append-add}
 use Rattle.word.specs.Bytes.{byte₀, byte₁, byte₂, byte₃, bytesOf, bytesOfWords}
+use Rattle.symbolic.specs.Symbolic.{Instruction}
+use Rattle.symbolic.specs.Real.{wordsFrom, imageOf}
+use Rattle.emission.specs.Tape.{Emits}
+use Rattle.emission.proofs.Laws.{laid}
 
 bytes-four : (w : ℕ) → length (bytesOf w) ≡ 4
 unfolding bytesOf
@@ -30,6 +34,18 @@ four image at w =
     let e₂ : at + 2 ≡ suc (suc at) = omega arith in
     let e₃ : at + 3 ≡ suc (suc (suc at)) = omega arith in
     rw (e₁, e₂, e₃)
+
+-- an image's bytes, once its code stands from the first word on
+
+words-length : (k : ℕ) (c : List Instruction) → length (wordsFrom k c) ≡ length c
+unfolding wordsFrom
+words-length k [] = refl
+words-length k (i ∷ c) = ap suc (words-length (suc k) c)
+
+pub imaged : {c : List Instruction} {at r : ℕ} {ws ws′ : List ℕ} → Emits c at ws ws′ r → at ≡ length c → at ≤ length ws → bytesOfWords (take at ws′) ≡ imageOf c
+unfolding imageOf
+imaged {c} {at} {r} {ws} {ws′} e h l =
+    ap (λ (m : List ℕ). bytesOfWords (take at m)) (laid 0 e (omega arith) l) ∙ ap bytesOfWords (take-at (wordsFrom 0 c) (drop at ws) at (words-length 0 c ∙ sym h))
 
 -- so far the first i words, then what was there
 pub bytes-none : (ws image : List ℕ) → image ≡ bytesOfWords (take 0 ws) ++ drop (4 * 0) image

@@ -3,6 +3,7 @@ ghost use mathlib.Core.Path.{_≡_};
 ghost use mathlib.Core.List.{_∷_, [], _++_};
 ghost use Prim.Native.Nat.{_+_, _*_, _≤_};
 ghost use Rattle.symbolic.specs.Symbolic.{sp, answer, mv, sw};
+ghost use Rattle.symbolic.specs.Fine.{far};
 ghost use Rattle.codegen.specs.Places.{frame-bytes, localWord, source as sourceOf, fetch as fetchOf, target as targetOf, keep as keepOf};
 ghost use Rattle.codegen.specs.Expressions.{saves as savesOf, loads as loadsOf, registersOf, returning as returningOf, entering as enteringOf};
 ghost use Rattle.emission.specs.Tape.{Emits};
@@ -10,6 +11,7 @@ ghost use Rattle.emission.specs.Macros.{placed};
 use crate::Place;
 use crate::jumps::RA;
 use crate::places::ANSWER;
+use crate::places::FIRST_TEMPORARY;
 use crate::places::IN_REGISTERS;
 use crate::places::SP;
 use crate::places::TEMPORARIES;
@@ -25,6 +27,9 @@ use processor::Alu;
 use processor::Instr;
 
 pub const FRAME_BYTES: u32 = 1984;
+
+// What takes the stack pointer back by a frame: 2 ^ 32 less its bytes.
+pub const FRAME_BACK: u32 = 4294965312;
 
 // A value from its place to a word of memory, so many bytes behind the frame's start.
 pub fn stored(out: &mut [u32], at: usize, p: Place, n: u64) -> usize
@@ -62,7 +67,7 @@ pub fn saves(out: &mut [u32], at: usize, n: u32) -> usize
         return at;
     }
     let k = n - 1;
-    let last = store(out, at, TEMPORARIES + k, 4 * (65 + k as u64));
+    let last = store(out, at, TEMPORARIES + k, 4 * (FIRST_TEMPORARY + k as u64));
     saves(out, last, k)
 }
 
@@ -76,7 +81,7 @@ pub fn loads(out: &mut [u32], at: usize, n: u32) -> usize
         return at;
     }
     let k = n - 1;
-    let last = load(out, at, TEMPORARIES + k, 4 * (65 + k as u64));
+    let last = load(out, at, TEMPORARIES + k, 4 * (FIRST_TEMPORARY + k as u64));
     loads(out, last, k)
 }
 
@@ -95,16 +100,12 @@ pub fn returning(out: &mut [u32], at: usize, d: u32) -> usize
 {
     let n = registers(d);
     let last = loads(out, at, n);
-    put(
-        out,
-        last,
-        Instr::OpImm(Alu::Add, SP, SP, 4294967295 - (FRAME_BYTES - 1)),
-    )
+    put(out, last, Instr::OpImm(Alu::Add, SP, SP, FRAME_BACK))
 }
 
 // A call of the function at position `to`, once its arguments are passed and temporaries are saved.
 pub fn entering(out: &mut [u32], at: usize, to: usize, d: u32) -> usize
-    requires { ⌜ (at ≤ 262144) × (to ≤ 262144) ⌝ }
+    requires { ⌜ (at ≤ far) × (to ≤ far) ⌝ }
     ensures { λ e. ⌜ Emits (enteringOf to d) at (now (out .entry)) (now (out .exit)) e ⌝ }
     ensures within { λ e. ⌜ e ≤ at ⌝ }
 {
@@ -116,7 +117,7 @@ pub fn entering(out: &mut [u32], at: usize, to: usize, d: u32) -> usize
 
 // All of a call that follows its arguments.
 pub fn calling(out: &mut [u32], at: usize, to: usize, d: u32) -> usize
-    requires { ⌜ (at ≤ 262144) × (to ≤ 262144) ⌝ }
+    requires { ⌜ (at ≤ far) × (to ≤ far) ⌝ }
     ensures { λ e. ⌜ Emits (savesOf (registersOf d) ++ enteringOf to d) at (now (out .entry)) (now (out .exit)) e ⌝ }
     ensures within { λ e. ⌜ e ≤ at ⌝ }
 {

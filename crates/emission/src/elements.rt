@@ -1,6 +1,7 @@
 // Elements: an array is given by its offset among all elements and its size. Scratch register 0 and an offset give an element's address.
 ghost use mathlib.Core.Path.{_≡_};
-ghost use Prim.Native.Nat.{ℕ, _≤_};
+ghost use Prim.Native.Nat.{ℕ, _^_, _≤_, _<_};
+ghost use Rattle.symbolic.specs.Fine.{far};
 ghost use Rattle.codegen.specs.Operators.{address as addressOf, inside as insideOf, index as indexOf, indexed as indexedOf, locate as locateOf, offset as offsetOf, reading as readingOf, writing as writingOf};
 ghost use Rattle.emission.specs.Tape.{Emits};
 ghost use Rattle.emission.specs.Macros.{placed, array};
@@ -30,7 +31,7 @@ pub const INDEX_STUB: usize = 9;
 // An element's address.
 pub fn address(offset: u32, i: u32) -> u64
     ensures { λ r. ⌜ r ≡ addressOf (array offset 0) i ⌝ }
-    ensures small { λ r. ⌜ r ≤ 1099511627775 ⌝ }
+    ensures small { λ r. ⌜ r < 2 ^ 40 ⌝ }
 {
     DATA_START + 4 * (offset as u64 + i as u64)
 }
@@ -59,7 +60,7 @@ pub fn index(p: Place) -> u32
 
 // Tests an index against the size, which is in scratch register 1, and makes its address of it.
 pub fn indexed(out: &mut [u32], at: usize, offset: u32, p: Place) -> usize
-    requires { ⌜ at ≤ 262144 ⌝ }
+    requires { ⌜ at ≤ far ⌝ }
     ensures { λ e. ⌜ Emits (indexedOf (array offset 0) (placed p)) at (now (out .entry)) (now (out .exit)) e ⌝ }
     ensures within { λ e. ⌜ e ≤ at ⌝ }
 {
@@ -81,7 +82,7 @@ pub fn indexed(out: &mut [u32], at: usize, offset: u32, p: Place) -> usize
 
 // Makes an element's address.
 pub fn locate(out: &mut [u32], at: usize, offset: u32, size: u32, p: Place) -> usize
-    requires { ⌜ at ≤ 262144 ⌝ }
+    requires { ⌜ at ≤ far ⌝ }
     ensures { λ e. ⌜ Emits (locateOf (array offset size) (placed p)) at (now (out .entry)) (now (out .exit)) e ⌝ }
     ensures within { λ e. ⌜ e ≤ at ⌝ }
 {
@@ -109,7 +110,7 @@ pub fn offset_of(offset: u32, size: u32, p: Place) -> u32
 
 // An element becomes temporary d.
 pub fn reading(out: &mut [u32], at: usize, offset: u32, size: u32, p: Place, d: u32) -> usize
-    requires { ⌜ at ≤ 262144 ⌝ }
+    requires { ⌜ at ≤ far ⌝ }
     ensures { λ e. ⌜ Emits (readingOf (array offset size) (placed p) d) at (now (out .entry)) (now (out .exit)) e ⌝ }
     ensures within { λ e. ⌜ e ≤ at ⌝ }
 {
@@ -122,7 +123,7 @@ pub fn reading(out: &mut [u32], at: usize, offset: u32, size: u32, p: Place, d: 
 
 // A value becomes an element.
 pub fn writing(out: &mut [u32], at: usize, offset: u32, size: u32, p: Place, v: Place) -> usize
-    requires { ⌜ at ≤ 262144 ⌝ }
+    requires { ⌜ at ≤ far ⌝ }
     ensures { λ e. ⌜ Emits (writingOf (array offset size) (placed p) (placed v)) at (now (out .entry)) (now (out .exit)) e ⌝ }
     ensures within { λ e. ⌜ e ≤ at ⌝ }
 {

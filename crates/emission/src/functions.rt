@@ -1,10 +1,10 @@
 // What a function begins and ends with, and what statements have besides their expressions.
-ghost use mathlib.Core.Path.{_≡_};
 ghost use mathlib.Core.List.{_∷_, []};
 ghost use Prim.Native.Nat.{_+_, _≤_};
 ghost use Rattle.processor.specs.declared.Alu.the-variants.{Add as AddOf};
 ghost use Rattle.processor.specs.declared.Cond.the-variants.{Ne as NeOf};
 ghost use Rattle.symbolic.specs.Symbolic.{x0, ra, sp, answer, branch, call as callOf, opi, sw, ecall as ecallOf};
+ghost use Rattle.symbolic.specs.Fine.{far};
 ghost use Rattle.codegen.specs.Operators.{stub};
 ghost use Rattle.codegen.specs.Statements.{limit, leaving as leavingOf, clears as clearsOf};
 ghost use Rattle.emission.specs.Tape.{Emits};
@@ -60,7 +60,7 @@ pub fn clears(out: &mut [u32], at: usize, first: u32, n: u32) -> usize
 
 // A function's first instructions: is there room for one more activation? Then the return address is stored.
 pub fn opening(out: &mut [u32], at: usize) -> usize
-    requires { ⌜ at ≤ 262144 ⌝ }
+    requires { ⌜ at ≤ far ⌝ }
     ensures { λ e. ⌜ Emits (branch NeOf sp limit 2 ∷ callOf (stub 3) ∷ sw ra sp 0 ∷ []) at (now (out .entry)) (now (out .exit)) e ⌝ }
     ensures within { λ e. ⌜ e ≤ at ⌝ }
 {

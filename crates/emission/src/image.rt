@@ -7,6 +7,7 @@ ghost use Prim.Native.Nat.{_+_, _*_, _≤_};
 ghost use Rattle.word.specs.Bytes.{bytesOf, bytesOfWords};
 ghost use Rattle.processor.specs.declared.Alu.the-variants.{Add as AddOf};
 ghost use Rattle.symbolic.specs.Symbolic.{x0, request, opi, ecall as ecallOf};
+ghost use Rattle.symbolic.specs.Fine.{far};
 ghost use Rattle.codegen.specs.Operators.{trapping as trappingOf};
 ghost use Rattle.codegen.specs.Image.{starting as startingOf, traps as trapsOf};
 ghost use Rattle.emission.specs.Tape.{Emits};
@@ -51,7 +52,7 @@ pub fn exiting(out: &mut [u32], at: usize) -> usize
 
 // The first instructions; main is at position `main`.
 pub fn starting(out: &mut [u32], at: usize, main: usize) -> usize
-    requires { ⌜ (at ≤ 262144) × (main ≤ 262144) ⌝ }
+    requires { ⌜ (at ≤ far) × (main ≤ far) ⌝ }
     ensures { λ e. ⌜ Emits (startingOf main) at (now (out .entry)) (now (out .exit)) e ⌝ }
     ensures within { λ e. ⌜ e ≤ at ⌝ }
 {

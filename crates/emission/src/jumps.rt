@@ -5,6 +5,7 @@ ghost use Prim.Native.Nat.{suc, _-_, _≤_};
 ghost use Rattle.processor.specs.declared.Cond.the-variants.{Ne as NeOf};
 ghost use Rattle.processor.specs.declared.Instr.the-variants.{Jal};
 ghost use Rattle.symbolic.specs.Symbolic.{x0, answer, jump as jumpOf};
+ghost use Rattle.symbolic.specs.Fine.{far};
 ghost use Rattle.symbolic.specs.Real.{distance};
 ghost use Rattle.codegen.specs.Operators.{opposite as oppositeOf, skip as skipOf, sense as senseOf, testing as testingOf, comparing as comparingOf, always as alwaysOf};
 ghost use Rattle.emission.specs.Tape.{Puts, Emits};
@@ -44,7 +45,7 @@ pub fn sense(t: bool, c: Cond) -> Cond
 
 // Jumps to position `to`, over all that stands before it.
 pub fn jump(out: &mut [u32], at: usize, to: usize) -> usize
-    requires { ⌜ (at ≤ to) × (to ≤ 262144) ⌝ }
+    requires { ⌜ (at ≤ to) × (to ≤ far) ⌝ }
     ensures { λ e. ⌜ Emits (jumpOf (suc (to - at)) ∷ []) at (now (out .entry)) (now (out .exit)) e ⌝ }
     ensures within { λ e. ⌜ e ≤ at ⌝ }
 {
@@ -54,7 +55,7 @@ pub fn jump(out: &mut [u32], at: usize, to: usize) -> usize
 
 // Jumps there if a comparison holds: near by a branch, far by a branch around a jump.
 pub fn skip(out: &mut [u32], at: usize, near: bool, c: Cond, r: u32, s: u32, to: usize) -> usize
-    requires { ⌜ (at ≤ to) × (to ≤ 262144) ⌝ }
+    requires { ⌜ (at ≤ to) × (to ≤ far) ⌝ }
     ensures { λ e. ⌜ EmitsFor (λ p q. skipOf near c p q (to - at)) r s at (now (out .entry)) (now (out .exit)) e ⌝ }
     ensures within { λ e. ⌜ e ≤ at ⌝ }
 {
@@ -70,7 +71,7 @@ pub fn skip(out: &mut [u32], at: usize, near: bool, c: Cond, r: u32, s: u32, to:
 
 // Jumps where a value's truth is t.
 pub fn testing(out: &mut [u32], at: usize, near: bool, t: bool, p: Place, to: usize) -> usize
-    requires { ⌜ (at ≤ to) × (to ≤ 262144) ⌝ }
+    requires { ⌜ (at ≤ to) × (to ≤ far) ⌝ }
     ensures { λ e. ⌜ Emits (testingOf near t (placed p) (to - at)) at (now (out .entry)) (now (out .exit)) e ⌝ }
     ensures within { λ e. ⌜ e ≤ at ⌝ }
 {
@@ -82,7 +83,7 @@ pub fn testing(out: &mut [u32], at: usize, near: bool, t: bool, p: Place, to: us
 
 // Jumps where the truth of a call's result is t.
 pub fn testing_answer(out: &mut [u32], at: usize, near: bool, t: bool, to: usize) -> usize
-    requires { ⌜ (at ≤ to) × (to ≤ 262144) ⌝ }
+    requires { ⌜ (at ≤ to) × (to ≤ far) ⌝ }
     ensures { λ e. ⌜ Emits (skipOf near (senseOf t NeOf) answer x0 (to - at)) at (now (out .entry)) (now (out .exit)) e ⌝ }
     ensures within { λ e. ⌜ e ≤ at ⌝ }
 {
@@ -102,7 +103,7 @@ pub fn comparing(
     q: Place,
     to: usize,
 ) -> usize
-    requires { ⌜ (at ≤ to) × (to ≤ 262144) ⌝ }
+    requires { ⌜ (at ≤ to) × (to ≤ far) ⌝ }
     ensures { λ e. ⌜ Emits (comparingOf near t c turned (placed p) (placed q) (to - at)) at (now (out .entry)) (now (out .exit)) e ⌝ }
     ensures within { λ e. ⌜ e ≤ at ⌝ }
 {
@@ -121,7 +122,7 @@ pub fn comparing(
 
 // A constant's truth is known.
 pub fn always(out: &mut [u32], at: usize, t: bool, n: u32, to: usize) -> usize
-    requires { ⌜ (at ≤ to) × (to ≤ 262144) ⌝ }
+    requires { ⌜ (at ≤ to) × (to ≤ far) ⌝ }
     ensures { λ e. ⌜ Emits (alwaysOf t n (to - at)) at (now (out .entry)) (now (out .exit)) e ⌝ }
     ensures within { λ e. ⌜ e ≤ at ⌝ }
 {
@@ -138,11 +139,10 @@ pub fn always(out: &mut [u32], at: usize, t: bool, n: u32, to: usize) -> usize
 }
 
 // Puts the jump to position `start` into the word before `at`, which was left free.
-pub fn jump_back(out: &mut [u32], at: usize, start: usize) -> usize
-    requires { ⌜ (at ≤ 262144) × (start ≤ 262144) ⌝ }
-    ensures { λ e. ⌜ Puts (Jal 0 (distance (at - 1) start)) at (now (out .entry)) (now (out .exit)) e ⌝ }
-    ensures within { λ e. ⌜ e ≡ at - 1 ⌝ }
+pub fn jump_back(out: &mut [u32], at: usize, start: usize)
+    requires { ⌜ (at ≤ far) × (start ≤ far) ⌝ }
+    ensures { λ _. ⌜ Puts (Jal 0 (distance (at - 1) start)) at (now (out .entry)) (now (out .exit)) (at - 1) ⌝ }
 {
     let by = reach(at, start);
-    put(out, at, Instr::Jal(0, by))
+    put(out, at, Instr::Jal(0, by));
 }

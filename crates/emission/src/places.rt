@@ -1,9 +1,9 @@
 // Where values are: constants made, operands fetched, results kept.
 ghost use mathlib.Core.Path.{_≡_};
 ghost use mathlib.Core.List.{_∷_, [], _++_};
-ghost use Prim.Native.Nat.{_+_, _*_, _%_, _≤_, _<_};
-ghost use Rattle.symbolic.specs.Symbolic.{number, scratch, sp, lw, sw};
-ghost use Rattle.codegen.specs.Places.{short as shortOf, upperOf, lowerOf, constantTo, source as sourceOf, fetch as fetchOf, target as targetOf, keep as keepOf, settle as settleOf, move as moveOf, bring as bringOf, temporary};
+ghost use Prim.Native.Nat.{_+_, _*_, _%_, _^_, _≤_, _<_};
+ghost use Rattle.symbolic.specs.Symbolic.{number, sp, lw, sw};
+ghost use Rattle.codegen.specs.Places.{short as shortOf, upperOf, lowerOf, constantTo, source as sourceOf, fetch as fetchOf, target as targetOf, keep as keepOf, settle as settleOf, move as moveOf, bring as bringOf};
 ghost use Rattle.emission.specs.Tape.{Emits};
 ghost use Rattle.emission.specs.Macros.{placed, EmitsAt, EmitsOne};
 use crate::Place;
@@ -25,6 +25,9 @@ pub const TEMPORARIES: u32 = 25;
 
 pub const IN_REGISTERS: u32 = 7;
 
+// The word of the frame that the first temporary has.
+pub const FIRST_TEMPORARY: u64 = 65;
+
 // Whether 12 bits, sign-extended, give the word.
 pub fn short(n: u32) -> bool
     ensures { λ r. ⌜ r ≡ shortOf n ⌝ }
@@ -37,7 +40,7 @@ pub fn short(n: u32) -> bool
 
 // The upper part of a word, for lui.
 pub fn upper(n: u64) -> u32
-    requires { ⌜ n < 1099511627776 ⌝ }
+    requires { ⌜ n < 2 ^ 40 ⌝ }
     ensures { λ r. ⌜ r ≡ upperOf n ⌝ }
 {
     ((n + 2048) / 4096 * 4096 % 4294967296) as u32
@@ -116,7 +119,7 @@ pub fn fetch(out: &mut [u32], at: usize, p: Place, w: u32) -> usize
             if d < IN_REGISTERS {
                 return at;
             }
-            load(out, at, SCRATCH + w, 4 * (65 + d as u64))
+            load(out, at, SCRATCH + w, 4 * (FIRST_TEMPORARY + d as u64))
         }
     }
 }
@@ -139,7 +142,7 @@ pub fn keep(out: &mut [u32], at: usize, d: u32) -> usize
     if d < IN_REGISTERS {
         return at;
     }
-    store(out, at, SCRATCH, 4 * (65 + d as u64))
+    store(out, at, SCRATCH, 4 * (FIRST_TEMPORARY + d as u64))
 }
 
 // One instruction on an operand, whose result becomes temporary d.
@@ -188,7 +191,7 @@ pub fn bring(out: &mut [u32], at: usize, p: Place) -> usize
             if d < IN_REGISTERS {
                 return put(out, at, Instr::OpImm(Alu::Add, ANSWER, TEMPORARIES + d, 0));
             }
-            load(out, at, ANSWER, 4 * (65 + d as u64))
+            load(out, at, ANSWER, 4 * (FIRST_TEMPORARY + d as u64))
         }
     }
 }

@@ -5,6 +5,7 @@ ghost use Prim.Native.Nat.{_-_, _≤_};
 ghost use Rattle.processor.specs.declared.Alu.the-variants.{Add as AddOf};
 ghost use Rattle.processor.specs.declared.Cond.the-variants.{Ne as NeOf};
 ghost use Rattle.symbolic.specs.Symbolic.{x0, op, opi, branch, jump as jumpOf, call as callOf};
+ghost use Rattle.symbolic.specs.Fine.{far};
 ghost use Rattle.codegen.specs.Places.{short as shortOf, target as targetOf, keep as keepOf};
 ghost use Rattle.word.specs.Choice.{pick};
 ghost use mathlib.Core.Option.{some, none};
@@ -42,6 +43,9 @@ use processor::Alu;
 use processor::Cond;
 use processor::Instr;
 use word::arithmetic::neg;
+
+// The stub of a division by zero.
+pub const DIVISION_STUB: usize = 6;
 
 // What an operator is as a value.
 pub fn work(o: u32) -> Work
@@ -134,12 +138,12 @@ pub fn plain(out: &mut [u32], at: usize, o: Alu, r: u32, s: u32, d: u32) -> usiz
 
 // One instruction behind a test of the divisor.
 pub fn divided(out: &mut [u32], at: usize, o: Alu, r: u32, s: u32, d: u32) -> usize
-    requires { ⌜ at ≤ 262144 ⌝ }
+    requires { ⌜ at ≤ far ⌝ }
     ensures { λ e. ⌜ EmitsFor (λ p q. branch NeOf q x0 2 ∷ callOf (stub 1) ∷ op o (targetOf d) p q ∷ keepOf d) r s at (now (out .entry)) (now (out .exit)) e ⌝ }
     ensures within { λ e. ⌜ e ≤ at ⌝ }
 {
     let last = plain(out, at, o, r, s, d);
-    let to_stub = reach(last, 6);
+    let to_stub = reach(last, DIVISION_STUB);
     let called = put(out, last, Instr::Jal(RA, to_stub));
     let around = onward(called, 2);
     put(out, called, Instr::Branch(Cond::Ne, s, 0, around))
@@ -147,7 +151,7 @@ pub fn divided(out: &mut [u32], at: usize, o: Alu, r: u32, s: u32, d: u32) -> us
 
 // 1 where a comparison holds, and else 0.
 pub fn tested(out: &mut [u32], at: usize, c: Cond, r: u32, s: u32, d: u32) -> usize
-    requires { ⌜ at ≤ 262144 ⌝ }
+    requires { ⌜ at ≤ far ⌝ }
     ensures { λ e. ⌜ EmitsFor (λ p q. branch c p q 3 ∷ opi AddOf (targetOf d) x0 0 ∷ jumpOf 2 ∷ opi AddOf (targetOf d) x0 1 ∷ keepOf d) r s at (now (out .entry)) (now (out .exit)) e ⌝ }
     ensures within { λ e. ⌜ e ≤ at ⌝ }
 {
@@ -163,7 +167,7 @@ pub fn tested(out: &mut [u32], at: usize, c: Cond, r: u32, s: u32, d: u32) -> us
 
 // An operator on two registers, whose result becomes temporary d.
 pub fn working(out: &mut [u32], at: usize, o: u32, r: u32, s: u32, d: u32) -> usize
-    requires { ⌜ at ≤ 262144 ⌝ }
+    requires { ⌜ at ≤ far ⌝ }
     ensures { λ e. ⌜ EmitsFor (λ p q. workingOf (workOf (strictOf o)) p q d) r s at (now (out .entry)) (now (out .exit)) e ⌝ }
     ensures within { λ e. ⌜ e ≤ at ⌝ }
 {
@@ -187,7 +191,7 @@ pub fn working(out: &mut [u32], at: usize, o: u32, r: u32, s: u32, d: u32) -> us
 
 // The value of an operator becomes temporary d.
 pub fn operating(out: &mut [u32], at: usize, o: u32, p: Place, q: Place, d: u32) -> usize
-    requires { ⌜ at ≤ 262144 ⌝ }
+    requires { ⌜ at ≤ far ⌝ }
     ensures { λ e. ⌜ Emits (operatingOf (strictOf o) (placed p) (placed q) d) at (now (out .entry)) (now (out .exit)) e ⌝ }
     ensures within { λ e. ⌜ e ≤ at ⌝ }
 {
@@ -219,7 +223,7 @@ pub fn deciding(
     d: u32,
     to: usize,
 ) -> usize
-    requires { ⌜ (at ≤ to) × (to ≤ 262144) ⌝ }
+    requires { ⌜ (at ≤ to) × (to ≤ far) ⌝ }
     ensures { λ e. ⌜ EmitsAny (λ entry. decidingBy entry near (relationOf (strictOf o)) t (strictOf o) (placed p) (placed q) d (to - at)) at (now (out .entry)) (now (out .exit)) e ⌝ }
     ensures within { λ e. ⌜ e ≤ at ⌝ }
 {

@@ -1,6 +1,7 @@
 // Code as it is written: from its end towards its start, one instruction before the other, into lent words.
 ghost use mathlib.Core.Path.{_≡_};
-ghost use Prim.Native.Nat.{_+_, _-_, _≤_};
+ghost use Prim.Native.Nat.{_+_, _-_, _*_, _≤_};
+ghost use Rattle.symbolic.specs.Fine.{far};
 ghost use Rattle.symbolic.specs.Real.{distance};
 ghost use Rattle.emission.specs.Tape.{Puts};
 use processor::Instr;
@@ -33,7 +34,7 @@ pub fn prior(at: usize) -> usize
 
 // What the instruction put before `at` adds to pc to come to position t.
 pub fn reach(at: usize, t: usize) -> u32
-    requires { ⌜ (at ≤ 262144) × (t ≤ 524288) ⌝ }
+    requires { ⌜ (at ≤ far) × (t ≤ 2 * far) ⌝ }
     ensures { λ r. ⌜ r ≡ distance (at - 1) t ⌝ }
 {
     let k = prior(at);
@@ -42,7 +43,7 @@ pub fn reach(at: usize, t: usize) -> u32
 
 // What it adds to come n instructions further.
 pub fn onward(at: usize, n: usize) -> u32
-    requires { ⌜ (at ≤ 262144) × (n ≤ 262144) ⌝ }
+    requires { ⌜ (at ≤ far) × (n ≤ far) ⌝ }
     ensures { λ r. ⌜ r ≡ distance (at - 1) (at - 1 + n) ⌝ }
 {
     let k = prior(at);

@@ -11,12 +11,6 @@ registers-requires c κs = search needs
 loads-requires : tie.Need-loads-requires
 loads-requires c κs = search needs
 
-sub-t11 : tie.Need-sub-t11
-sub-t11 c = search needs
-
-sub-t12 : tie.Need-sub-t12
-sub-t12 c = search needs
-
 put-requires : tie.Need-put-requires
 put-requires c κs = search needs
 
@@ -27,4 +21,4 @@ returns : tie.Need-returns
 returns c = (returns-by (c .before .before .before .before .before .before .before .before .before .before .args .d) (c .before .before .before .before .before .before .before .before .registers .ensures .0) (c .before .before .before .before .before .before .loads .ensures .0) (c .before .before .put .ensures .0), omega arith)
 
 pub returning-spec : {M : Type 1} → statement M
-returning-spec = tie.close (tie.spec registers-requires loads-requires sub-t11 sub-t12 put-requires same-length returns)
+returning-spec = tie.close (tie.spec registers-requires loads-requires put-requires same-length returns)

@@ -1,7 +1,5 @@
 -- The stores of `sets`, in its order.
-use native.Mathlib.Numerals.{add-one}
 use lib.ListN.{length-set}
-use Rattle.word.specs.Bytes.{bytesOf}
 use native.Mathlib.Omega.{arith}
 use Rattle.emission.proofs.Wordwise.{four}
 use Rattle.emission.proofs.image.put_bytes.Statement.{statement}

@@ -1,5 +1,4 @@
 -- Case by case.
-use native.Mathlib.Omega.{arith}
 use Rattle.emission.proofs.Pieces.{source-zero, source-some, source-local, source-register, source-frame}
 use Rattle.emission.proofs.places.source.Statement.{statement}
 use Rattle.emission.proofs.places.source.Tie as tie

@@ -1,6 +1,5 @@
 -- By the test.
-use native.Mathlib.Omega.{arith}
-use mathlib.Core.Path.{sym, ap, _∙_}
+use mathlib.Core.Path.{sym, _∙_}
 use Rattle.emission.proofs.Strictly.{is-short, is-long}
 use Rattle.emission.proofs.strict.if_short.Statement.{statement}
 use Rattle.emission.proofs.strict.if_short.Tie as tie

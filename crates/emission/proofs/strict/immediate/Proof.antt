@@ -1,6 +1,4 @@
 -- By the place.
-use native.Mathlib.Omega.{arith}
-use Rattle.emission.proofs.Strictly.{strict-rest}
 use Rattle.emission.proofs.strict.immediate.Statement.{statement}
 use Rattle.emission.proofs.strict.immediate.Tie as tie
 use borrow.Author.Needs.{needs}

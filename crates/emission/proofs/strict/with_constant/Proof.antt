@@ -1,7 +1,6 @@
 -- Each arm is the table's entry.
-use native.Mathlib.Omega.{arith}
-use Rattle.emission.specs.Macros.{placed, strictOf}
-use mathlib.Core.Path.{sym, ap, _∙_}
+use Rattle.emission.specs.Macros.{strictOf}
+use mathlib.Core.Path.{ap, _∙_}
 use Prim.Native.Nat.{ℕ}
 use mathlib.Core.Option.{some, none}
 use Rattle.word.specs.Choice.{pick}

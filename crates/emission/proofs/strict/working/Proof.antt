@@ -1,6 +1,6 @@
 -- Case by case.
 use native.Mathlib.Omega.{arith}
-use Rattle.emission.specs.Macros.{placed, strictOf}
+use Rattle.emission.specs.Macros.{strictOf}
 use Rattle.codegen.specs.Operators as O
 use Rattle.emission.proofs.Strictly.{works-plain, works-turned, works-divided, works-tested, works-tested-turned}
 use Rattle.emission.proofs.strict.working.Statement.{statement}

@@ -1,6 +1,6 @@
 -- From one before `at`.
 use Rattle.symbolic.specs.Real.{distance}
-use mathlib.Core.Path.{_≡_, ap, _∙_}
+use mathlib.Core.Path.{ap, _∙_}
 use Prim.Native.Nat.{ℕ, _+_, _-_}
 use Rattle.emission.proofs.tape.onward.Statement.{statement}
 use Rattle.emission.proofs.tape.onward.Tie as tie

@@ -1,5 +1,5 @@
 -- One word, or none.
-use mathlib.Core.Path.{refl, sym, ap, _∙_}
+use mathlib.Core.Path.{sym, ap}
 use Prim.Native.Nat.{ℕ, _-_}
 use lib.ListN.{set}
 use lib.Seq.{set-out}

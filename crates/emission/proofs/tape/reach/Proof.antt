@@ -1,6 +1,5 @@
 -- The code is the definition.
 use Rattle.symbolic.specs.Real.{distance}
-use native.Mathlib.Omega.{arith}
 use Rattle.emission.proofs.tape.reach.Statement.{statement}
 use Rattle.emission.proofs.tape.reach.Tie as tie
 use borrow.Author.Needs.{needs}
