@@ -8,3 +8,4 @@ pub mod Deciding
 pub mod Calling
 pub mod Placing
 pub mod Stating
+pub mod Functioning

@@ -25,7 +25,7 @@ use Rattle.compiler.specs.Lies as L
 use Rattle.compiler.specs.Standing.{firstEnd, secondEnd, behind, secondBlock, Standing, put, store, choose, while, leave, give, emit, run, Stand, end, then}
 use Rattle.compiler.specs.Post.{PlaceAt, SidesAt, entryIn, Values, Conditions, Calls}
 use Rattle.compiler.specs.Blocks.{Answers, Statements, Blocks, rest, without, Skips, Passes-over}
-use Rattle.compiler.proofs.Views.{CallAt, is-call, starts, array-is}
+use Rattle.compiler.proofs.Views.{CallAt, is-call, ends, starts, array-is}
 use Rattle.compiler.proofs.Arguments.{weight-at, weight-small}
 
 -- an expression that ends where it is said to
@@ -290,14 +290,13 @@ module _ (entry : ℕ → ℕ) (near : Bool) (e : Expr) (b : Block) where
         absurd (omega (arith, h, length-append tested (block entry near b ++ (back ∷ [])), length-append (block entry near b) (back ∷ [])));
   }
 
-module _ {ws es : List ℕ} {near : Bool} {p at : ℕ} {us us₁ us₂ us₃ : List ℕ} {r₁ r₂ r₃ : ℕ} where
+module _ {ws es : List ℕ} {near : Bool} {p at : ℕ} {us us₁ us₂ us₃ : List ℕ} {r₁ r₂ : ℕ} where
   pub statement-while : {j n : ℕ} → word ws p ≡ 3 → 0 < at → j ≡ firstEnd ws p → n ≡ word ws (p + 5) → Blocks ws es near j n (at - 1) us us₁ r₁ →
-      Conditions ws es near false j 0 r₁ at us₁ us₂ r₂ → Puts (Jal 0 (distance (at - 1) r₂)) at us₂ us₃ r₃ → r₃ ≡ at - 1 → Statements ws es near p at us us₃ r₂
-  statement-while {j} {n} kind pos ej en sb sc sj er = record { each = λ (s : Stmt) (t : Standing ws s p). by t }
+      Conditions ws es near false j 0 r₁ at us₁ us₂ r₂ → Puts (Jal 0 (distance (at - 1) r₂)) at us₂ us₃ (at - 1) → Statements ws es near p at us us₃ r₂
+  statement-while {j} {n} kind pos ej en sb sc sj = record { each = λ (s : Stmt) (t : Standing ws s p). by t }
     where
       turned : (e : Expr) (b : Block) → Lies ws e (p + 8) j → Stand ws b j n → Emits (statement (entryIn es) near (C.while e b)) at us us₃ r₂
-      turned e b l t =
-          turns (entryIn es) near e b pos (sb .each b t) (sc .each e (p + 8) l (omega arith)) (subst (λ (k : ℕ). Puts (Jal 0 (distance (at - 1) r₂)) at us₂ us₃ k) er sj)
+      turned e b l t = turns (entryIn es) near e b pos (sb .each b t) (sc .each e (p + 8) l (omega arith)) sj
 
       by : {s : Stmt} → Standing ws s p → Emits (statement (entryIn es) near s) at us us₃ r₂
       by (put k x b l) = absurd (omega arith)
@@ -396,8 +395,8 @@ module _ {ws : List ℕ} {p : ℕ} where
   unfolding without
   skips-start = record { each = λ (b : Block) (n : ℕ) (t : Stand ws b p n) (h : 0 ≤ n). subst (λ (k : ℕ). Stand ws b p k) {x = n} {y = n - 0} (omega arith) t }
 
-  pub skips-next : {i q : ℕ} → Skips ws p i q → Skips ws p (i + 1) (behind ws q)
-  skips-next {i} {q} k = record { each = λ (b : Block) (n : ℕ) (t : Stand ws b p n) (h : i + 1 ≤ n). by b n t h }
+  next : {i q : ℕ} → Skips ws p i q → Skips ws p (i + 1) (behind ws q)
+  next {i} {q} k = record { each = λ (b : Block) (n : ℕ) (t : Stand ws b p n) (h : i + 1 ≤ n). by b n t h }
     where
       by : (b : Block) (n : ℕ) → Stand ws b p n → i + 1 ≤ n → Stand ws (without (i + 1) b) (behind ws q) (n - (i + 1))
       by b n t h =
@@ -408,3 +407,35 @@ module _ {ws : List ℕ} {p : ℕ} where
   skips-far {i} {m} {q} k h far = record {
     each = λ (b : Block) (n : ℕ) (t : Stand ws b p n) (l : m ≤ n). absurd (omega (arith, inside (λ (z : n - i ≡ 0). omega arith) (k .each b n t (omega arith))));
   }
+
+  pub skips-next : {i q w : ℕ} → Skips ws p i q → w ≡ word ws (q + 7) → Skips ws p (i + 1) (q + 8 + w)
+  skips-next {i} {q} k e = subst⁻¹ (λ (n : ℕ). Skips ws p (i + 1) (q + 8 + n)) e (next k)
+
+  pub skips-end : {i m q : ℕ} → Skips ws p i q → i ≡ m → Skips ws p m q
+  skips-end {q = q} k e = subst (λ (n : ℕ). Skips ws p n q) e k
+
+-- The jump over a second block
+
+pub over-none : {m at low : ℕ} {us : List ℕ} → m ≡ 0 → Passes-over m at low us us low
+over-none z = record { stays = λ _. refl; words = λ _. refl; jumps = λ h. absurd (h z) }
+
+pub over-jump : {m at low r : ℕ} {us us′ : List ℕ} → (m ≡ 0 → ⊥) → Emits (jump (suc (at - low)) ∷ []) low us us′ r → Passes-over m at low us us′ r
+over-jump h s = record { stays = λ z. absurd (h z); words = λ z. absurd (h z); jumps = λ _. s }
+
+-- No expression, and no statement, is so short or so far
+
+pub answer-nowhere : {ws es : List ℕ} {near : Bool} {j at : ℕ} {us : List ℕ} → j < 4 → Answers ws es near j at us us at
+answer-nowhere {ws} {j = j} h = record { each = λ (x : Expr) (i : ℕ) (l : Lies ws x i j). absurd (omega (arith, ends l)) }
+
+pub store-far : {ws es : List ℕ} {near : Bool} {p at k : ℕ} {us : List ℕ} → word ws p ≡ 1 → k ≡ secondEnd ws p → 1073741824 < k → Statements ws es near p at us us at
+store-far {ws} {es} {near} {p} {at} {k} {us} kind e far = record { each = λ (s : Stmt) (t : Standing ws s p). by t }
+  where
+    by : {s : Stmt} → Standing ws s p → Emits (statement (entryIn es) near s) at us us at
+    by (put k x b l) = absurd (omega arith)
+    by (store k x y b l m) = absurd (omega (arith, b))
+    by (choose k b l s t) = absurd (omega arith)
+    by (while k b l s) = absurd (omega arith)
+    by (leave k) = absurd (omega arith)
+    by (give k b l) = absurd (omega arith)
+    by (emit k b l) = absurd (omega arith)
+    by (run k b l) = absurd (omega arith)

@@ -2,3 +2,4 @@ pub mod Lies
 pub mod Standing
 pub mod Post
 pub mod Blocks
+pub mod Functions

@@ -5,3 +5,5 @@ pub mod places; // where values are
 pub mod own; // an item's own code
 pub mod calls; // calls and their arguments
 pub mod values; // expressions, as values and as conditions
+pub mod statements; // statements and blocks
+pub mod functions; // functions, and how long they are
