@@ -9,3 +9,5 @@ pub mod Calling
 pub mod Placing
 pub mod Stating
 pub mod Functioning
+pub mod Layouts
+pub mod Holding

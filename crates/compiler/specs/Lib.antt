@@ -3,3 +3,4 @@ pub mod Standing
 pub mod Post
 pub mod Blocks
 pub mod Functions
+pub mod Programs

@@ -7,3 +7,10 @@ pub mod calls; // calls and their arguments
 pub mod values; // expressions, as values and as conditions
 pub mod statements; // statements and blocks
 pub mod functions; // functions, and how long they are
+pub mod programs; // where functions begin, and the image
+
+// An image of so many bytes; or it is too long.
+pub enum Compiled {
+    Image(usize),
+    TooLong,
+}
