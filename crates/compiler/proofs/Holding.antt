@@ -9,9 +9,10 @@ use Rattle.flat.specs.Statements.{flats}
 use Rattle.flat.specs.Words.{word, count, blockLength, blockWords, entry, entries, bodies, wordsThen}
 use Rattle.flat.proofs.Decode.{Past, onward, past-block}
 use Rattle.codegen.specs.Owed.{nothing, Owed}
+use Rattle.compiler.specs.declared.Compiled.{Compiled}
 use Rattle.compiler.specs.Standing.{Stand}
 use Rattle.compiler.specs.Functions.{FunctionAt}
-use Rattle.compiler.specs.Programs.{FunctionsAt, ProgramAt}
+use Rattle.compiler.specs.Programs.{FunctionsAt, ProgramAt, Pictures, Compiles}
 use Rattle.compiler.proofs.Written.{at}
 use Rattle.compiler.proofs.Bodies.{block-long, stand}
 
@@ -104,3 +105,6 @@ holds p more ws e l o = record {
 
     body : (f : ℕ) → f < length (p .functions) → Body ws (bodyPlace (p .functions) (entry (length (p .functions))) f) (getD (p .functions) f nothing)
     body f b = bodies-stand (p .functions) (entry (length (p .functions))) more l enough behind f b
+
+pub for-words : {ws bytes bytes′ : List ℕ} {c : Compiled} → length ws ≤ 1073741824 → Pictures ws bytes c bytes′ → Compiles ws bytes c bytes′
+for-words {ws} l s = record { each = λ (p : Program) (more : List ℕ) (e : ws ≡ wordsThen p more) (o : Owed p). s .each p (holds p more ws e l o) }

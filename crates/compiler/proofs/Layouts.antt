@@ -26,7 +26,7 @@ use Rattle.emission.proofs.Wordwise.{imaged}
 use Rattle.compiler.specs.declared.Compiled.the-variants.{Image, TooLong}
 use Rattle.compiler.specs.Post.{position, entryIn}
 use Rattle.compiler.specs.Functions.{FunctionAt, Functions, Measures, Nearness}
-use Rattle.compiler.specs.Programs.{FunctionsAt, Lengths, Layout, Bodies, ProgramAt, Gives, Compiles}
+use Rattle.compiler.specs.Programs.{FunctionsAt, Lengths, Layout, Bodies, ProgramAt, Gives, Pictures}
 
 abbrev long : Function → ℕ
 long g = length (function (λ _. 0) g)
@@ -231,7 +231,7 @@ unfolding image
 pictured p h = h
 
 module _ {ws es : List ℕ} {n r : ℕ} (en : n ≡ word ws 0) (y : Layout ws es n r) where
-  pub too-long : {bytes : List ℕ} → 131072 < r → Compiles ws bytes TooLong bytes
+  pub too-long : {bytes : List ℕ} → 131072 < r → Pictures ws bytes TooLong bytes
   too-long {bytes} h = record { each = λ (p : Program) (a : ProgramAt ws p). by p a }
     where
       by : (p : Program) → ProgramAt ws p → Gives p bytes TooLong bytes
@@ -240,7 +240,7 @@ module _ {ws es : List ℕ} {n r : ℕ} (en : n ≡ word ws 0) (y : Layout ws es
           let e : entryFrom (p .functions) 15 n ≡ entryFrom (p .functions) 15 (length (p .functions)) = ap (entryFrom (p .functions) 15) (sym c) in
           (inl (omega (arith, image-long p, code-long p, e, y .long (p .functions) (a .functions) c h)), refl)
 
-  pub no-room : {bytes : List ℕ} → r ≤ 131072 → length bytes < 4 * r → Compiles ws bytes TooLong bytes
+  pub no-room : {bytes : List ℕ} → r ≤ 131072 → length bytes < 4 * r → Pictures ws bytes TooLong bytes
   no-room {bytes} small h = record { each = λ (p : Program) (a : ProgramAt ws p). by p a }
     where
       by : (p : Program) → ProgramAt ws p → Gives p bytes TooLong bytes
@@ -250,7 +250,7 @@ module _ {ws es : List ℕ} {n r : ℕ} (en : n ≡ word ws 0) (y : Layout ws es
           (inr (omega (arith, image-long p, code-long p, e, y .fits (p .functions) (a .functions) c small .0)), refl)
 
   pub compiled : {us us₁ us₂ us₃ bytes bytes′ : List ℕ} {m low s t k : ℕ} → r ≤ 131072 → n < length es → 131072 ≤ length us → m ≡ word ws 1 → k ≡ entryIn es m → Bodies ws es n r us us₁ low →
-      Emits traps low us₁ us₂ s → Emits (starting k) s us₂ us₃ t → bytes′ ≡ bytesOfWords (take r us₃) ++ drop (4 * r) bytes → Compiles ws bytes (Image (4 * r)) bytes′
+      Emits traps low us₁ us₂ s → Emits (starting k) s us₂ us₃ t → bytes′ ≡ bytesOfWords (take r us₃) ++ drop (4 * r) bytes → Pictures ws bytes (Image (4 * r)) bytes′
   compiled {us} {us₁} {us₂} {us₃} {bytes} {bytes′} {m} {low} {s} {t} {k} small room wide em ek b tr st eb = record { each = λ (p : Program) (a : ProgramAt ws p). by p a }
     where
       whole : (p : Program) → entryIn es ≡ entryOf p → k ≡ entryOf p (p .main) → Emits (functionsFrom (entryIn es) (p .functions)) r us us₁ low → Emits (instructionsOf p) r us us₃ t

@@ -5,8 +5,8 @@ use mathlib.Core.List.{List, _++_}
 use mathlib.Core.Logic.{_⊎_}
 use lib.ListN.{length, getD, drop}
 use Rattle.language.specs.Core.{Function, Program}
-use Rattle.flat.specs.Words.{word}
-use Rattle.codegen.specs.Owed.{nothing}
+use Rattle.flat.specs.Words.{word, wordsThen}
+use Rattle.codegen.specs.Owed.{nothing, Owed}
 use Rattle.codegen.specs.Statements.{function}
 use Rattle.codegen.specs.Image.{functions-start, entryFrom, functionsFrom, image}
 use Rattle.emission.specs.Tape.{Emits}
@@ -48,5 +48,9 @@ abbrev pub Gives : Program → List ℕ → Compiled → List ℕ → Type 0
 Gives p bytes (Image n) bytes′ = (n ≡ length (image p)) × (bytes′ ≡ image p ++ drop n bytes)
 Gives p bytes TooLong bytes′ = ((longest-code < length (image p)) ⊎ (length bytes < length (image p))) × (bytes′ ≡ bytes)
 
-pub record Compiles (ws bytes : List ℕ) (c : Compiled) (bytes′ : List ℕ) : Type 0 where
+pub record Pictures (ws bytes : List ℕ) (c : Compiled) (bytes′ : List ℕ) : Type 0 where
   pub each : (p : Program) → ProgramAt ws p → Gives p bytes c bytes′
+
+-- of every program that keeps the rules and whose words these are
+pub record Compiles (ws bytes : List ℕ) (c : Compiled) (bytes′ : List ℕ) : Type 0 where
+  pub each : (p : Program) (more : List ℕ) → ws ≡ wordsThen p more → Owed p → Gives p bytes c bytes′

@@ -82,7 +82,7 @@ pub fn compile(
     out: &mut [u32],
     image: &mut [u8],
 ) -> Compiled
-    requires { ⌜ (3 + 4 * getD (now words) 0 0 ≤ 1073741824) × ((getD (now words) 0 0 < length (now entries)) × (131072 ≤ length (now out))) ⌝ }
+    requires { ⌜ (length (now words) ≤ 1073741824) × ((3 + 4 * getD (now words) 0 0 ≤ 1073741824) × ((getD (now words) 0 0 < length (now entries)) × (131072 ≤ length (now out)))) ⌝ }
     ensures { λ r. ⌜ Compiles (now (words .entry)) (now (image .entry)) r (now (image .exit)) ⌝ }
 {
     let n = word(words, 0) as usize;
