@@ -1,10 +1,10 @@
 -- Arguments from the last to the first: what the earlier ones leave in temporaries, and the code of all of them as that of the earlier ones and of the last.
-use Prim.Native.Nat.{ℕ, zero, suc, _+_, _-_, _*_, _≤_}
+use Prim.Native.Nat.{ℕ, suc, _+_, _-_, _*_, _≤_}
 use native.Mathlib.Omega.{arith}
 use mathlib.Core.Path.{_≡_, refl, sym, ap, _∙_, subst}
 use mathlib.Core.Bool.{Bool, true, false}
 use mathlib.Core.List.{List, [], _∷_, _++_, append-assoc, append-nil}
-use lib.ListN.{length, length-append}
+use lib.ListN.{length}
 use Rattle.word.specs.Choice.{pick}
 use Rattle.language.specs.Tree.{Unary}
 use Rattle.language.specs.Core.{Expr, Args}

@@ -1,22 +1,20 @@
 -- The words of a block's flat form stand where they are written.
-use Prim.Native.Nat.{ℕ, zero, suc, _+_, _-_, _*_, _≤_}
+use Prim.Native.Nat.{ℕ, suc, _+_, _*_, _≤_}
 use native.Mathlib.Omega.{arith}
 use mathlib.Core.Path.{_≡_, refl, sym, ap, _∙_, subst, subst⁻¹}
 use mathlib.Core.List.{List, [], _∷_}
-use lib.ListN.{drop, getD, length, length-drop}
-use lib.Seq.{getD-drop}
-use Rattle.language.specs.Core.{Array, Expr, Args, Stmt, Block}
+use lib.ListN.{length, length-drop}
+use Rattle.language.specs.Core.{Expr, Args, Stmt, Block}
 use Rattle.language.specs.Core as C
 use Rattle.flat.specs.Items.{Item, code, codes, size, sizes}
 use Rattle.flat.specs.Items as I
 use Rattle.flat.specs.Statements.{flat, flats}
 use Rattle.flat.specs.Statements as S
 use Rattle.flat.specs.Words.{word, kindWords, itemsWords, itemsLength, count, restLength, blockLength, stmtWords, blockWords}
-use Rattle.flat.proofs.Decode.{Past, onward, past-items, past-stmt, past-block, past-header}
+use Rattle.flat.proofs.Decode.{Past, onward, past-stmt, past-block, past-header}
 use Rattle.compiler.specs.Lies.{Lies}
-use Rattle.compiler.specs.Lies as L
 use Rattle.compiler.specs.Standing.{firstEnd, secondEnd, behind, secondBlock, Standing, put, store, choose, while, leave, give, emit, run, Stand, end, then}
-use Rattle.compiler.proofs.Written.{Stands, StandAll, stands, stand-all, call-stands, at}
+use Rattle.compiler.proofs.Written.{Stands, stands, stand-all, call-stands, at}
 
 -- how many items there are
 mutual

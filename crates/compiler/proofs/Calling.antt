@@ -1,12 +1,11 @@
 -- The code of calls: of the last argument, of those before it, and of the call behind them.
-use Prim.Native.Nat.{ℕ, zero, suc, _+_, _-_, _*_, _≤_, _<_}
+use Prim.Native.Nat.{ℕ, _+_, _-_, _*_, _≤_, _<_}
 use native.Mathlib.Omega.{arith}
-use mathlib.Core.Path.{_≡_, refl, sym, ap, _∙_, subst, subst⁻¹}
+use mathlib.Core.Path.{_≡_, sym, ap, _∙_, subst, subst⁻¹}
 use mathlib.Core.Bool.{Bool}
-use mathlib.Core.List.{List, [], _∷_, _++_}
+use mathlib.Core.List.{List, _++_}
 use lib.ListN.{length}
 use Rattle.language.specs.Core.{Expr, Args}
-use Rattle.language.specs.Core as C
 use Rattle.symbolic.specs.Symbolic.{Instruction}
 use Rattle.codegen.specs.Owed.{count}
 use Rattle.codegen.specs.Places.{Place, above}
@@ -14,7 +13,7 @@ use Rattle.codegen.specs.Expressions.{placeOf, placesOf, passes, saves, registe
 use Rattle.emission.specs.Tape.{Emits}
 use Rattle.emission.proofs.Laws.{none, after}
 use Rattle.compiler.specs.Lies.{first, second, Lies, LieAll}
-use Rattle.compiler.specs.Post.{Starts, PlaceAt, weight, weights, Weighs, entryIn, Values, Arguments, Passes, Callings, Calls}
+use Rattle.compiler.specs.Post.{Starts, PlaceAt, weights, Weighs, entryIn, Values, Arguments, Passes, Callings, Calls}
 use Rattle.compiler.proofs.Views.{starts}
 use Rattle.compiler.proofs.Arguments.{weight-at, weights-small, snoc, LastOf, last-of, no-arguments, starts-all, weights-snoc, codes-snoc, places-snoc, places-many, passing, passes-snoc}
 

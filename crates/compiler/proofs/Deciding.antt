@@ -1,5 +1,5 @@
 -- The code of a condition, item by item from its end: what is left to emit gives, behind what was emitted, the whole.
-use Prim.Native.Nat.{ℕ, zero, suc, _+_, _-_, _*_, _≤_, _<_}
+use Prim.Native.Nat.{ℕ, _+_, _-_, _*_, _≤_, _<_}
 use native.Mathlib.Omega.{arith}
 use mathlib.Core.Path.{_≡_, refl, sym, ap, _∙_, subst, subst⁻¹}
 use mathlib.Core.Bool.{Bool, true, false}
@@ -9,18 +9,17 @@ use mathlib.Core.Option.{Option, none, some}
 use types.Run.{OneOf, miss}
 use denote.Enum.Declared.{tagOf}
 use lib.Dec.{eqb}
-use lib.ListN.{length, length-append}
+use lib.ListN.{length}
 use borrow.Author.Tests.{eqb-true, eq-eqb}
 use Rattle.word.specs.Choice.{pick, both}
 use Rattle.processor.specs.declared.Cond.{Cond}
 use Rattle.processor.specs.declared.Cond.the-variants.{Ne}
 use Rattle.language.specs.Tree.{Unary, Strict, eq, ne, lt, le, gt, ge, add, sub, mul, div, rem}
 use Rattle.language.specs.Tree as T
-use Rattle.language.specs.Core.{Array, Expr, Args}
+use Rattle.language.specs.Core.{Expr}
 use Rattle.language.specs.Core as C
 use Rattle.flat.specs.Words.{word, unaryNumber, strictNumber}
 use Rattle.symbolic.specs.Symbolic.{Instruction, answer, x0}
-use Rattle.codegen.specs.Owed.{count}
 use Rattle.codegen.specs.Places.{Place, local, temporary, above}
 use Rattle.codegen.specs.Operators.{skip, sense, operating, applying, result, relation, comparing, testing, always, reading}
 use Rattle.codegen.specs.Expressions.{placeOf, placesOf, code, codes, condition, calling, decidingBy}
@@ -30,7 +29,7 @@ use Rattle.emission.specs.declared.Relation.{Relation}
 use Rattle.emission.specs.declared.Relation.the-variants as R
 use Rattle.emission.specs.Macros.{strictOf, related}
 use Rattle.emission.proofs.Laws.{after, after-if}
-use Rattle.compiler.specs.Lies.{first, second, Lies, LieAll}
+use Rattle.compiler.specs.Lies.{first, Lies}
 use Rattle.compiler.specs.Lies as L
 use Rattle.compiler.specs.Post.{Starts, PlaceAt, SidesAt, RelationAt, Compares, entryIn, Values, Conditions, Calls, agree}
 use Rattle.compiler.proofs.Views.{NumberAt, CallAt, UnaryAt, StrictAt, JoinAt, joining, is-number, is-call, is-unary, is-strict, is-join, ends, starts}

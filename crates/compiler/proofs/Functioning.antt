@@ -1,9 +1,9 @@
 -- The code of functions, piece by piece from its end, and its length.
-use Prim.Native.Nat.{ℕ, zero, suc, _+_, _-_, _*_, _≤_, _<_}
+use Prim.Native.Nat.{ℕ, _+_, _-_, _<_}
 use native.Mathlib.Omega.{arith}
 use native.Mathlib.Decide.{decLt}
-use mathlib.Core.Path.{_≡_, refl, sym, ap, _∙_, subst, subst⁻¹}
-use mathlib.Core.Bool.{Bool, true, false}
+use mathlib.Core.Path.{_≡_, sym, ap, _∙_, subst, subst⁻¹}
+use mathlib.Core.Bool.{Bool, true}
 use mathlib.Core.List.{List, [], _∷_, _++_}
 use borrow.Author.Tests.{lt-ltb, le-ltb}
 use lib.Dec.{ltb}
@@ -12,7 +12,7 @@ use Rattle.processor.specs.declared.Alu.the-variants.{Add}
 use Rattle.processor.specs.declared.Cond.the-variants.{Ne}
 use Rattle.language.specs.Core.{Function}
 use Rattle.flat.specs.Words.{word}
-use Rattle.symbolic.specs.Symbolic.{Instruction, x0, ra, sp, answer, opi, sw, branch, call}
+use Rattle.symbolic.specs.Symbolic.{x0, ra, sp, answer, opi, sw, branch, call}
 use Rattle.codegen.specs.Operators.{stub}
 use Rattle.codegen.specs.Statements.{limit, leaving, block, clears, functionBy, nearIn}
 use Rattle.codegen.proofs.Lengths.{by-len}

@@ -1,18 +1,18 @@
 -- The words of a program hold it.
-use Prim.Native.Nat.{ℕ, zero, suc, _+_, _-_, _*_, _≤_, _<_}
+use Prim.Native.Nat.{ℕ, zero, suc, _+_, _*_, _≤_, _<_}
 use native.Mathlib.Omega.{arith}
-use mathlib.Core.Path.{_≡_, refl, sym, ap, _∙_, subst, subst⁻¹}
+use mathlib.Core.Path.{_≡_, refl, ap, subst, subst⁻¹}
 use mathlib.Core.List.{List, [], _∷_}
 use lib.ListN.{length, getD, drop, length-drop}
 use Rattle.language.specs.Core.{Function, Program}
 use Rattle.flat.specs.Statements.{flats}
-use Rattle.flat.specs.Words.{word, count, blockLength, blockWords, entry, entries, bodies, wordsThen}
+use Rattle.flat.specs.Words.{word, count, blockLength, entry, entries, bodies, wordsThen}
 use Rattle.flat.proofs.Decode.{Past, onward, past-block}
 use Rattle.codegen.specs.Owed.{nothing, Owed}
 use Rattle.compiler.specs.declared.Compiled.{Compiled}
 use Rattle.compiler.specs.Standing.{Stand}
 use Rattle.compiler.specs.Functions.{FunctionAt}
-use Rattle.compiler.specs.Programs.{FunctionsAt, ProgramAt, Pictures, Compiles}
+use Rattle.compiler.specs.Programs.{ProgramAt, Pictures, Compiles}
 use Rattle.compiler.proofs.Written.{at}
 use Rattle.compiler.proofs.Bodies.{block-long, stand}
 

@@ -3,11 +3,11 @@ use Prim.Native.Nat.{ℕ, zero, suc, _+_, _-_, _*_, _≤_, _<_}
 use native.Mathlib.Omega.{arith}
 use native.Mathlib.Decide.{decLt}
 use mathlib.Core.Path.{_≡_, refl, sym, ap, _∙_, subst, subst⁻¹, fun-ext}
-use mathlib.Core.Bool.{Bool, true, false}
-use mathlib.Core.List.{List, [], _∷_, _++_, append-assoc}
-use mathlib.Core.Logic.{_⊎_, inl, inr}
+use mathlib.Core.Bool.{Bool}
+use mathlib.Core.List.{List, [], _∷_, _++_}
+use mathlib.Core.Logic.{inl, inr}
 use borrow.Author.Tests.{lt-ltb, le-ltb, le-leb}
-use lib.Dec.{ltb, leb}
+use lib.Dec.{ltb}
 use lib.ListN.{length, getD, set, take, drop, length-append, drop-of-length-le}
 use lib.Seq.{getD-set-same, getD-set-other, drop-cons}
 use Rattle.word.specs.Choice.{pick}
@@ -17,7 +17,7 @@ use Rattle.flat.specs.Words.{word}
 use Rattle.symbolic.specs.Symbolic.{Instruction}
 use Rattle.symbolic.specs.Real.{wordsFrom, imageOf}
 use Rattle.codegen.specs.Owed.{nothing}
-use Rattle.codegen.specs.Statements.{functionBy, nearIn, function}
+use Rattle.codegen.specs.Statements.{functionBy, function}
 use Rattle.codegen.specs.Image.{starting, traps, functions-start, entryFrom, entryOf, functionsFrom, instructionsOf, image}
 use Rattle.codegen.proofs.Lengths.{function-len}
 use Rattle.emission.specs.Tape.{Emits}

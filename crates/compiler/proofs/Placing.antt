@@ -1,8 +1,8 @@
 -- Where values are, kind by kind, and the own code of items by it.
-use Prim.Native.Nat.{ℕ, zero, suc, _+_, _-_, _*_, _≤_, _<_}
+use Prim.Native.Nat.{ℕ, _-_, _≤_, _<_}
 use native.Mathlib.Omega.{arith}
 use mathlib.Core.Path.{_≡_, refl, sym, ap, _∙_, subst, subst⁻¹}
-use mathlib.Core.Bool.{Bool, true, false}
+use mathlib.Core.Bool.{Bool, false}
 use mathlib.Core.List.{List}
 use mathlib.Core.Option.{Option, none, some}
 use borrow.Author.Tests.{lt-ltb, le-ltb, ne-eqb}
@@ -12,14 +12,12 @@ use Rattle.word.specs.Choice.{pick, both}
 use Rattle.processor.specs.declared.Cond.{Cond}
 use Rattle.language.specs.Tree.{Unary, Strict}
 use Rattle.language.specs.Tree as T
-use Rattle.language.specs.Core.{Expr, Args}
-use Rattle.language.specs.Core as C
+use Rattle.language.specs.Core.{Expr}
 use Rattle.flat.specs.Words.{word, unaryNumber, strictNumber}
 use Rattle.codegen.specs.Places.{Place, constant, local, temporary, above}
 use Rattle.codegen.specs.Operators.{result, operating, applying, relation, reading, comparing}
 use Rattle.codegen.specs.Expressions.{placeOf}
 use Rattle.emission.specs.declared.Place.{Place as Where}
-use Rattle.emission.specs.declared.Place.the-variants as At
 use Rattle.emission.specs.Tape.{Emits}
 use Rattle.emission.specs.Macros.{placed, array, unaryOf, strictOf}
 use Rattle.compiler.specs.Lies.{first, second, Lies}

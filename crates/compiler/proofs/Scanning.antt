@@ -1,7 +1,7 @@
 -- A scan backwards finds where an expression starts: between its start and the scan lie as many things as are still needed.
 use Prim.Native.Nat.{ℕ, zero, suc, _+_, _-_, _≤_, _<_}
 use native.Mathlib.Omega.{arith}
-use mathlib.Core.Path.{_≡_, refl, sym, ap, _∙_, subst, subst⁻¹}
+use mathlib.Core.Path.{_≡_, refl, sym, ap, _∙_, subst}
 use mathlib.Core.List.{List}
 use Rattle.language.specs.Core.{Expr, Args}
 use Rattle.flat.specs.Words.{word}

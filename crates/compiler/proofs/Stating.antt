@@ -2,11 +2,10 @@
 use Prim.Native.Nat.{ℕ, zero, suc, _+_, _-_, _*_, _≤_, _<_}
 use native.Mathlib.Omega.{arith}
 use mathlib.Core.Path.{_≡_, refl, sym, ap, _∙_, subst, subst⁻¹}
-use mathlib.Core.Bool.{Bool, true, false}
+use mathlib.Core.Bool.{Bool, false}
 use mathlib.Core.List.{List, [], _∷_, _++_, append-assoc, append-nil}
 use lib.ListN.{length, length-append}
 use Rattle.processor.specs.declared.Alu.the-variants.{Add}
-use Rattle.processor.specs.declared.Instr.{Instr}
 use Rattle.processor.specs.declared.Instr.the-variants.{Jal}
 use Rattle.language.specs.Core.{Array, Expr, Args, Stmt, Block}
 use Rattle.language.specs.Core as C
@@ -20,10 +19,10 @@ use Rattle.codegen.specs.Statements.{leaving, over, otherwise, brought, answeri
 use Rattle.emission.specs.Tape.{Puts, Emits}
 use Rattle.emission.specs.Macros.{array}
 use Rattle.emission.proofs.Laws.{none, after, after-if, filled}
-use Rattle.compiler.specs.Lies.{first, second, Lies, LieAll}
+use Rattle.compiler.specs.Lies.{Lies}
 use Rattle.compiler.specs.Lies as L
 use Rattle.compiler.specs.Standing.{firstEnd, secondEnd, behind, secondBlock, Standing, put, store, choose, while, leave, give, emit, run, Stand, end, then}
-use Rattle.compiler.specs.Post.{PlaceAt, SidesAt, entryIn, Values, Conditions, Calls}
+use Rattle.compiler.specs.Post.{PlaceAt, entryIn, Values, Conditions, Calls}
 use Rattle.compiler.specs.Blocks.{Answers, Statements, Blocks, rest, without, Skips, Passes-over}
 use Rattle.compiler.proofs.Views.{CallAt, is-call, ends, starts, array-is}
 use Rattle.compiler.proofs.Arguments.{weight-at, weight-small}

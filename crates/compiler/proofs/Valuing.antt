@@ -1,5 +1,5 @@
 -- The code of a value, item by item from its end: what is left to emit gives, behind what was emitted, the whole.
-use Prim.Native.Nat.{ℕ, zero, suc, _+_, _-_, _*_, _≤_, _<_}
+use Prim.Native.Nat.{ℕ, suc, _-_, _*_, _≤_, _<_}
 use native.Mathlib.Omega.{arith}
 use mathlib.Core.Path.{_≡_, refl, sym, ap, _∙_, subst, subst⁻¹}
 use mathlib.Core.Bool.{Bool, true, false}
@@ -7,19 +7,18 @@ use mathlib.Core.List.{List, [], _∷_, _++_, append-assoc}
 use lib.Dec.{eqb}
 use lib.ListN.{length, length-append}
 use Rattle.word.specs.Choice.{pick}
-use Rattle.language.specs.Tree.{Unary, Strict}
-use Rattle.language.specs.Core.{Array, Expr, Args}
+use Rattle.language.specs.Tree.{Strict}
+use Rattle.language.specs.Core.{Expr}
 use Rattle.language.specs.Core as C
-use Rattle.flat.specs.Words.{word, unaryNumber, strictNumber}
+use Rattle.flat.specs.Words.{word, strictNumber}
 use Rattle.symbolic.specs.Symbolic.{Instruction, answer, mv, jump}
-use Rattle.codegen.specs.Owed.{count}
 use Rattle.codegen.specs.Places.{Place, above, target, keep, settle, move}
-use Rattle.codegen.specs.Operators.{operating, applying, reading}
+use Rattle.codegen.specs.Operators.{operating}
 use Rattle.codegen.specs.Expressions.{placeOf, placesOf, code, codes, condition, calling}
 use Rattle.emission.specs.Tape.{Emits}
 use Rattle.emission.proofs.Laws.{none, after, after-if}
-use Rattle.compiler.specs.Lies.{first, second, Lies, LieAll, number, local, element, call, unary, strict, and, or}
-use Rattle.compiler.specs.Post.{Starts, PlaceAt, weight, SidesAt, Reads, Applies, Operates, entryIn, Values, Arguments, Conditions, Passes, Callings, Calls}
+use Rattle.compiler.specs.Lies.{first, Lies, number, local, element, call, unary, strict, and, or}
+use Rattle.compiler.specs.Post.{Starts, PlaceAt, SidesAt, Reads, Applies, Operates, entryIn, Values, Conditions, Calls}
 use Rattle.compiler.proofs.Views.{ElementAt, CallAt, UnaryAt, StrictAt, JoinAt, joining, is-element, is-call, is-unary, is-strict, is-join, ends, starts}
 use Rattle.compiler.proofs.Arguments.{weight-at, weight-small}
 

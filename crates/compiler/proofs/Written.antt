@@ -1,9 +1,8 @@
 -- The words of an expression's flat form lie where they are written.
-use Prim.Native.Nat.{ℕ, zero, suc, _+_, _-_, _*_, _≤_}
+use Prim.Native.Nat.{ℕ, suc, _+_, _-_, _*_}
 use native.Mathlib.Omega.{arith}
 use mathlib.Core.Path.{_≡_, refl, sym, ap, _∙_, subst}
-use mathlib.Core.List.{List, [], _∷_}
-use lib.ListN.{drop, getD, length}
+use mathlib.Core.List.{List, _∷_}
 use lib.Seq.{getD-drop}
 use Rattle.language.specs.Tree.{Unary, Strict}
 use Rattle.language.specs.Core.{Array, Expr, Args}

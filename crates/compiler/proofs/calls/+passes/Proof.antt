@@ -1,7 +1,7 @@
 -- The last argument first; the measure is how many there are.
-use Prim.Native.Nat.{_-_, ℕ, _<_}
 use native.Mathlib.Omega.{arith}
 use Rattle.compiler.proofs.Calling.{passes-none, passes-more}
+use Prim.Native.Nat.{ℕ, _<_}
 use borrow.Fn.Kinds.{In}
 use borrow.Fn.PlainCycle.{Measures, is, falls, and}
 use Rattle.compiler.proofs.calls.passes.Reads as passes

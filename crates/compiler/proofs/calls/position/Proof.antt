@@ -1,6 +1,5 @@
 -- By the test.
 use native.Mathlib.Omega.{arith}
-use mathlib.Core.Path.{sym}
 use borrow.Author.Tests.{le-leb, lt-leb}
 use Rattle.compiler.proofs.calls.position.Statement.{statement}
 use Rattle.compiler.proofs.calls.position.Tie as tie

@@ -1,7 +1,6 @@
 -- By the kind of the last item; the measure is the position.
-use Prim.Native.Nat.{_-_, ℕ, _<_}
-use native.Mathlib.Omega.{arith}
 use Rattle.compiler.proofs.Placing.{place-none, place-number, place-local, place-unary, place-other}
+use Prim.Native.Nat.{ℕ, _<_}
 use borrow.Fn.Kinds.{In}
 use borrow.Fn.PlainCycle.{Measures, is, falls, and}
 use Rattle.compiler.proofs.places.place_of.Reads as place-of

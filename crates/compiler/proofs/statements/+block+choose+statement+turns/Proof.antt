@@ -1,7 +1,7 @@
 -- Each function of the cycle emits the code of what stands where it looks. Measures: how far the words may still go, then how many statements there are, then
 -- who calls whom.
-use Prim.Native.Nat.{_-_, _*_, _+_, _/_, _≤_, ℕ, _<_}
-use mathlib.Core.Path.{_≡_, refl, sym, ap, _∙_}
+use Prim.Native.Nat.{_-_, _*_, _+_, ℕ, _<_}
+use mathlib.Core.Path.{sym, _∙_}
 use native.Mathlib.Omega.{arith}
 use Rattle.compiler.proofs.Stating as S
 use borrow.Fn.Kinds.{In}

@@ -1,6 +1,4 @@
 -- The index, the value, and then its store.
-use Prim.Native.Nat.{_+_, _*_}
-use mathlib.Core.Path.{ap, _∙_}
 use native.Mathlib.Omega.{arith}
 use Rattle.compiler.proofs.Stating.{statement-store, store-far}
 use Rattle.compiler.proofs.statements.store.Statement.{statement}
