@@ -1,7 +1,7 @@
 -- Locals after a statement: those that were visible stay, and one more is there after a `let`.
-use mathlib.Core.Path.{_≡_, refl}
+use mathlib.Core.Path.{refl}
 use mathlib.Core.List.{List}
-use Prim.Native.Nat.{ℕ, _+_, _≤_, _<_}
+use Prim.Native.Nat.{ℕ, _+_, _<_}
 use native.Mathlib.Omega.{arith}
 use Rattle.rules.specs.declared.Step.the-variants as To
 use Rattle.rules.specs.Post.{Enters}
