@@ -9,7 +9,7 @@ use lib.Seq.{sets}
 use Rattle.language.specs.Tree.{Place, Ty}
 use Rattle.language.specs.Tree as T
 use Rattle.language.specs.Core as C
-use Rattle.language.specs.Rules.{Ruled, keeps, breaks, Global, Scope, stmt, block}
+use Rattle.language.specs.Rules.{Ruled, keeps, breaks, Global, Scope, stmt, block, most-locals}
 use Rattle.grammar.specs.Flat as G
 use Rattle.flat.specs.Statements.{flat, flats}
 use Rattle.flat.specs.Words as F
@@ -21,7 +21,7 @@ use Rattle.rules.specs.declared.Step.{Step}
 use Rattle.rules.specs.declared.Step.the-variants as To
 use Rattle.rules.specs.declared.Counted.{Counted}
 use Rattle.rules.specs.declared.Counted.the-variants as Now
-use Rattle.rules.specs.Post.{scopeOf, Stated, StmtCase}
+use Rattle.rules.specs.Post.{scopeOf, Stated, StmtCase, most-places, most-words}
 use Rattle.rules.specs.Statements.{Heads, Moves, StepCase, Within, BlockRoom, StmtRoom, Statement, Blocked, Blocks}
 use Rattle.rules.proofs.Stacks.{sets-append}
 use Rattle.rules.proofs.Stating.{went, stopped}
@@ -48,11 +48,11 @@ pub record Blocking (text : List ℕ) (gs : List Global) (result : Option Ty) (t
   pub kept : (j : ℕ) → j < 4 * l₀ → word locals j ≡ word locals₀ j
   pub far : p ≤ at
   pub apart : at + q ≡ to + p
-  pub near : at ≤ 17179869184
+  pub near : at ≤ most-places
   pub seen : l₀ ≤ l
   pub visible : l ≤ count
   pub counted : count₀ ≤ count
-  pub few : count ≤ 64
+  pub few : count ≤ most-locals
   pub for-locals : length locals ≡ length locals₀
   pub for-types : length types ≡ length types₀
   pub for-starts : length starts ≡ length starts₀
@@ -168,7 +168,7 @@ module _ {text : List ℕ} {gs : List Global} {result : Option Ty} {tree : List 
                 (then-case text gs result (a .first) (a .rest) _ core to (to + (8 + rest)) (done b more a .value) _ (done b more a .is) (done b more a .there) (omega (arith, following a (hd .is-rest))) o core′ y);
           })
 
-          pub block-again : {types₁ starts₁ : List ℕ} → length tree ≤ 67108864 → at + (8 + rest) ≤ length tree → length locals₁ ≡ length locals → length types₁ ≡ length types → length starts₁ ≡ length starts → length core₁ ≡ length core →
+          pub block-again : {types₁ starts₁ : List ℕ} → length tree ≤ most-words → at + (8 + rest) ≤ length tree → length locals₁ ≡ length locals → length types₁ ≡ length types → length starts₁ ≡ length starts → length core₁ ≡ length core →
               Blocking text gs result tree g n p q locals₀ l₀ count₀ types₀ starts₀ core₀ (i + 1) (at + (8 + rest)) (to + (8 + rest)) l₁ count₁ locals₁ types₁ starts₁ core₁
           block-again e f el et es ec = record {
             left = λ b more ew en nm. on b more (stands b more ew en nm);

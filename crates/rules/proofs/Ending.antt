@@ -13,6 +13,7 @@ use Rattle.language.specs.Tree as T
 use Rattle.language.specs.Tree.{Ty}
 use Rattle.language.specs.Rules.{isReturn, endsInReturn}
 use Rattle.grammar.specs.Flat as G
+use Rattle.rules.specs.Post.{most-places, most-words}
 use Rattle.rules.specs.Tables.{word}
 use Rattle.rules.specs.Statements.{Heads, Returns, Ends, holdsBlocks}
 use Rattle.rules.proofs.Walking.{Left, Next, next, ended, there, onward}
@@ -119,9 +120,9 @@ pub record EndsAs (b : T.Block) (ends : Bool) (rest : T.Block) : Type 0 where
 pub record Ending (tree : List ℕ) (p n i at : ℕ) (ends : Bool) : Type 0 where
   pub left : (b : T.Block) (more : List ℕ) → drop p tree ≡ G.blockWords b more → n ≡ G.count b → Left tree n more i at (EndsAs b ends)
   pub far : p ≤ at
-  pub near : at ≤ 17179869184
+  pub near : at ≤ most-places
 
-pub ending-starts : (tree : List ℕ) (p n : ℕ) → p ≤ 17179869184 → Ending tree p n 0 p false
+pub ending-starts : (tree : List ℕ) (p n : ℕ) → p ≤ most-places → Ending tree p n 0 p false
 unfolding isReturn endsFrom
 ending-starts tree p n h = record { left = λ b more ew en. record { rest = b; words = ew; many = en ∙ omega arith; holds = record { same = whole b } }; far = omega arith; near = h }
   where
@@ -150,7 +151,7 @@ module _ {tree : List ℕ} {p n i at : ℕ} {ends : Bool} (c : Ending tree p n i
       then-ends s T.end r e = sym e
       then-ends s (T.then t b) r e = refl
 
-      pub ending-again : {r : Bool} → Returns (drop at tree) r → length tree ≤ 67108864 → at + (8 + rest) ≤ length tree → Ending tree p n (i + 1) (at + (8 + rest)) r
+      pub ending-again : {r : Bool} → Returns (drop at tree) r → length tree ≤ most-words → at + (8 + rest) ≤ length tree → Ending tree p n (i + 1) (at + (8 + rest)) r
       ending-again {r} x e f = record { left = λ b more ew en. on b more (stands b more ew en); far = omega (arith, c .far); near = omega (arith, e, f) }
         where
           on : (b : T.Block) (more : List ℕ) → Next tree n more i at (EndsAs b ends) → Left tree n more (i + 1) (at + (8 + rest)) (EndsAs b r)
