@@ -8,13 +8,14 @@ use lib.ListN.{length, getD, take, drop, length-drop, length-append}
 use lib.Seq.{take-at}
 use Rattle.language.specs.Core.{Function, Program}
 use Rattle.processor.specs.Image.{longest-code}
-use Rattle.flat.specs.Words.{wordsOf, wordsThen, entries, bodies, entry, flats, blockLength}
+use Rattle.flat.specs.Statements.{flats}
+use Rattle.flat.specs.Words.{wordsOf, wordsThen, entries, bodies, entry, blockLength}
 use Rattle.codegen.specs.Image.{image}
 use Rattle.elaboration.proofs.Accepted.{accepted}
 use Rattle.elaboration.proofs.Kept.{kept}
 use Rattle.compiler.specs.Programs as P
 use Rattle.compiler.specs.Programs.{Bounded}
-use Rattle.compiler.specs.declared.Compiled as P
+use Rattle.compiler.specs.declared.Compiled as D
 use Rattle.compiler.specs.declared.Compiled.the-variants as P′
 use Rattle.toolchain.specs.Checking.{Work, Enough, core-room}
 use Rattle.toolchain.specs.Compilation.{Compiles, too-long}
@@ -28,7 +29,7 @@ words-are {n = n} m = ap (take n) (m .there) ∙ take-at (wordsOf (m .program)) 
 -- a program has four words for each function, and so fewer functions than words
 entries-long : (gs : List Function) (place : ℕ) (more : List ℕ) → length (entries gs place more) ≡ 4 * length gs + length more
 unfolding entries
-entries-long [] place more = refl
+entries-long [] place more = omega arith
 entries-long (g ∷ gs) place more = omega (arith, entries-long gs (place + blockLength (flats (g .body))) more)
 
 few : (p : Program) → 3 + 4 * length (p .functions) ≤ length (wordsOf p)
@@ -42,8 +43,12 @@ first-word m = ap (λ (ws : List ℕ). getD ws 0 0) (words-are m)
 pub functions-few : {text core : List ℕ} {n : ℕ} → Made text n core → 3 + 4 * getD (take n core) 0 0 ≤ core-room
 functions-few m = omega (arith, first-word m, few (m .program), m .size, m .short)
 
+pub words-few : {text core : List ℕ} {n : ℕ} → Made text n core → length (take n core) ≤ core-room
+unfolding wordsOf
+words-few m = omega (arith, ap length (words-are m), m .size, m .short)
+
 module _ {text core : List ℕ} {n : ℕ} (w : Work) (e : Enough w) (m : Made text n core) (before after : List ℕ) (same : length after ≡ length before) where
-  pub compiled : (c : P.Compiled) → P.Compiles (take n core) before c after → Bounded c → Compiles text w before (toldOf c) after
+  pub compiled : (c : D.Compiled) → P.Compiles (take n core) before c after → Bounded c → Compiles text w before (toldOf c) after
   unfolding Compiles
   compiled (P′.Image k) h b =
       let g = h .each (m .program) [] (words-are m) (accepted text (m .program) (m .accepted) .0) in
