@@ -1,0 +1,34 @@
+-- `command_of` meets its contract: each test is one of the definition's.
+use mathlib.Core.Path.{sym, _∙_}
+use Rattle.language.specs.Tokens.{bytes}
+use Rattle.console.specs.Arguments.{commandOf}
+use Rattle.console.proofs.arguments.command_of.Statement.{statement}
+use Rattle.console.proofs.arguments.command_of.Tie as tie
+use borrow.Author.Needs.{needs}
+
+slice-aggregate-is-spelt : tie.Need-slice-aggregate-is-spelt
+slice-aggregate-is-spelt c = search needs
+
+is-spelt-requires : tie.Need-is-spelt-requires
+is-spelt-requires c κs = search needs
+
+returns : tie.Need-returns
+unfolding commandOf bytes
+returns c = rw (sym (c .before .is-spelt .ensures) ∙ c .if1 .taken)
+
+slice-aggregate-is-spelt-2 : tie.Need-slice-aggregate-is-spelt-2
+slice-aggregate-is-spelt-2 c = search needs
+
+is-spelt-requires-2 : tie.Need-is-spelt-requires-2
+is-spelt-requires-2 c κs = search needs
+
+returns-2 : tie.Need-returns-2
+unfolding commandOf bytes
+returns-2 c = rw (sym (c .before .before .before .before .is-spelt .ensures) ∙ c .before .before .before .if1 .left, sym (c .before .is-spelt2 .ensures) ∙ c .if2 .taken)
+
+returns-3 : tie.Need-returns-3
+unfolding commandOf bytes
+returns-3 c = rw (sym (c .before .before .before .before .is-spelt .ensures) ∙ c .before .before .before .if1 .left, sym (c .before .is-spelt2 .ensures) ∙ c .if2 .left)
+
+pub command-of-spec : {M : Type 1} → statement M
+command-of-spec = tie.close (tie.spec slice-aggregate-is-spelt is-spelt-requires returns slice-aggregate-is-spelt-2 is-spelt-requires-2 returns-2 returns-3)
