@@ -2,3 +2,4 @@
 pub mod arguments; // the command, its options and its files
 pub mod numbers; // numbers of options and of an input text
 pub mod place; // lines and columns
+pub mod shown; // numbers as people read them

@@ -1,9 +1,9 @@
 // What the program says: lines `key: value` on standard output, sentences on standard error, and its status on descriptor 3, where the
 // launcher reads it, since a program has no other.
+use console::shown;
 use libc::STDERR_FILENO;
 use libc::STDOUT_FILENO;
 use word::bytes::word_of;
-use word::order::magnitude;
 
 // The exit statuses.
 pub const DONE: u32 = 0;
@@ -18,8 +18,6 @@ const STATUS_FILENO: i32 = 3;
 
 // Where the input block lies in memory.
 const ARRAYS: usize = 0x100000;
-
-const SIGN: u32 = 0x80000000;
 
 fn wide(n: u32) -> u64 {
     n as u64
@@ -76,14 +74,11 @@ fn say_hex(w: u32) {
     io::print_hex(STDOUT_FILENO, wide(w), 8);
 }
 
-// A word in signed decimal.
+// A word in signed decimal, after a blank.
 fn say_signed(w: u32) {
-    if w < SIGN {
-        say(b" ");
-    } else {
-        say(b" -");
-    }
-    io::print_decimal(STDOUT_FILENO, wide(magnitude(w)));
+    let mut text = shown::room();
+    let n = shown::show(w, &mut text);
+    say(&text[..n]);
 }
 
 pub fn pc_line(key: &[u8], pc: u32) {
