@@ -10,3 +10,4 @@ pub mod ExprLaws
 pub mod StmtLaws
 pub mod ItemLaws
 pub mod Whole
+pub mod Examples

@@ -1,4 +1,4 @@
--- The operators' table by kinds: what src/lib.rt has in arrays.
+-- The operators' table by kinds: what src/operators.rt has in arrays.
 use mathlib.Core.Path.{_≡_, refl, sym, ap, _∙_}
 use mathlib.Core.Bool.{Bool, true, false}
 use mathlib.Core.List.{List, [], _∷_}
