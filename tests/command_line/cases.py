@@ -136,6 +136,114 @@ def file_rows():
     yield row("memory on a full device", "exec i --memory /dev/full", {"i": EXIT}, USAGE, "", "cannot write /dev/full")
 
 
+GCD = b"""fn gcd(a: int, b: int): int {
+  while b != 0 { let t: int = a % b; a = b; b = t; }
+  return a;
+}
+fn main() { emit gcd(12, 18); emit gcd(-12, 18); emit gcd(5, 0); }
+"""
+ZONES = b"""var smoke: int[4];
+var door: int[2];
+fn alarm(z: int): bool { return smoke[z] >= 70 || smoke[z] < 0; }
+fn main() {
+  let n: int = 0;
+  let z: int = 0;
+  while z < 4 {
+    if alarm(z) { n = n + 1; emit z; }
+    z = z + 1;
+  }
+  if n >= 2 { door[0] = 1; door[1] = 1; emit 100; }
+  else { if n == 1 { door[0] = 1; } }
+}
+"""
+ECHO = b"fn f(x: int): int { emit x; return x; }\n"
+DEPTH = b"fn f(n: int): int { if n == 0 { return 0; } else { return 1 + f(n - 1); } }\n"
+
+
+def main_of(body, before=b""):
+    return before + b"fn main() { " + body + b" }\n"
+
+
+# Document 01 section 6: a text, its arrays, the outcome, the log, the arrays after it, and the fuel used.
+RUNS = (
+    ("text G", GCD, "", "finished", "6 6 5", "", 97),
+    ("text Z, quiet", ZONES, "10 20 30 69 0 0", "finished", "", "10 20 30 69 0 0", 96),
+    ("text Z, one", ZONES, "10 70 30 5 0 0", "finished", "1", "10 70 30 5 1 0", 101),
+    ("text Z, two", ZONES, "99 20 -1 5 0 0", "finished", "0 2 100", "99 20 -1 5 1 1", 108),
+    ("nothing", main_of(b""), "", "finished", "", "", 0),
+    ("one emit", main_of(b"emit 1;"), "", "finished", "1", "", 2),
+    ("trap 1", main_of(b"emit 1; emit 7 / (3 - 3); emit 2;"), "", "trap 1", "1", "", 8),
+    ("signs", main_of(b"let m: int = -2147483647 - 1; emit m / -1; emit m % -1; emit -7 / 2; emit -7 % 2; emit 7 / -2; emit 7 % -2; emit -m;"), "", "finished",
+     "-2147483648 0 -3 -1 -3 1 -2147483648", "", 38),
+    ("wrapping", main_of(b"emit 2147483647 + 1; emit 65536 * 65536; emit 65537 * 65537;"), "", "finished", "-2147483648 0 131073", "", 12),
+    ("trap 2", main_of(b"a[2] = 5; emit a[2]; emit a[3];", b"var a: int[3];\n"), "0 0 0", "trap 2", "5", "0 0 5", 9),
+    ("left to right", main_of(b"emit f(1) + f(2) * f(3);", ECHO), "", "finished", "1 2 3 7", "", 21),
+    ("index, value, test", main_of(b"a[f(1)] = f(0); a[f(2)] = f(9) / 0;", ECHO + b"var a: int[2];\n"), "0 0", "trap 1", "1 0 2 9", "0 0", 28),
+    ("64 activations", main_of(b"emit f(62);", DEPTH), "", "finished", "62", "", 691),
+    ("65 activations", main_of(b"emit f(63);", DEPTH), "", "trap 3", "", "", 696),
+)
+
+# Document 01 section 6: texts that are refused, the answer, and the place that is said.
+REFUSALS = (
+    ("a number too large", main_of(b"emit 2147483648;"), 1, "t:1:18"),
+    ("a leading zero", main_of(b"emit 01;"), 1, "t:1:18"),
+    ("a letter after a number", main_of(b"emit 12a;"), 1, "t:1:"),
+    ("a long name", main_of(b"let " + b"n" * 33 + b": int = 0;"), 1, "t:1:"),
+    ("a chain of comparisons", main_of(b"if 1 < 2 < 3 { }"), 1, "t:1:"),
+    ("32 parentheses", main_of(b"emit " + b"(" * 32 + b"1" + b")" * 32 + b";"), 1, "t:1:"),
+    ("an upper-case letter", b"fn Main() { }\n", 1, "t:1:4"),
+    ("a fault in the third line", b"# a\n# b\n  @\n", 1, "t:3:3"),
+    ("binary garbage", bytes(range(256)), 1, "t:1:1"),
+    ("a text that is too long", b" " * 65536 + b"\n", 1, "65536"),
+    ("a huge text", b"#" * 1000000, 1, "65536"),
+    ("the empty text", b"", 2, "t:"),
+    ("no main", b"fn f() { }\n", 2, "t:"),
+    ("a let that hides", main_of(b"let a: int = 1; let a: int = 2;"), 2, "t:1:"),
+    ("a let in its own value", main_of(b"let a: int = a;"), 2, "t:1:"),
+    ("an order of bools", main_of(b"if true < false { }"), 2, "t:1:"),
+    ("an array without index", main_of(b"emit a;", b"var a: int[1];\n"), 2, "t:2:"),
+    ("a while at the end", b"fn f(): int { while true { return 1; } }\n" + main_of(b""), 2, "t:"),
+    ("an if without else at the end", b"fn f(): int { if true { return 1; } }\n" + main_of(b""), 2, "t:"),
+)
+
+
+def lines(**values):
+    return "".join("%s:%s\n" % (key.replace("_", "-"), " " + str(value) if value != "" else "") for key, value in values.items())
+
+
+def text_rows():
+    """Every answer to a text, and every vector of its run."""
+    for title, text, answer, said in REFUSALS:
+        for command in ("check", "run"):
+            yield row("%s: %s" % (command, title), command + " t", {"t": text}, REFUSED, "answer: %d\n" % answer, said)
+    for title, text, arrays, outcome, log, after, fuel in RUNS:
+        status = ACCEPTED if outcome == "finished" else STOPPED
+        yield row("check: " + title, "check t", {"t": text}, ACCEPTED, "answer: 0\n", "accepted")
+        yield row("run: " + title, "run t --input n", {"t": text, "n": arrays.encode()}, status,
+                  lines(answer=0, outcome=outcome, fuel=fuel, log=log, arrays=after))
+    yield row("run: zeros", "run t", {"t": ZONES}, ACCEPTED, lines(answer=0, outcome="finished", fuel=96, log="", arrays="0 0 0 0 0 0"))
+    yield row("run: a raw block", "run t --block b", {"t": ZONES, "b": struct.pack("<6i", 99, 20, -1, 5, 0, 0)}, ACCEPTED,
+              lines(answer=0, outcome="finished", fuel=108, log="0 2 100", arrays="99 20 -1 5 1 1"))
+    yield row("run: out of fuel", "run t --fuel 1000", {"t": main_of(b"while true { }")}, STOPPED, lines(answer=0, outcome="out of fuel", fuel=1000, log="", arrays=""), "fuel")
+    yield row("run: no fuel", "run t --fuel 0", {"t": main_of(b"emit 1;")}, STOPPED, lines(answer=0, outcome="out of fuel", fuel=0, log="", arrays=""))
+    yield row("run: trap 4", "run t --room 2", {"t": main_of(b"emit 1; emit 2; emit 3;")}, STOPPED, lines(answer=0, outcome="trap 4", fuel=6, log="1 2", arrays=""), "full")
+    for title, numbers in (("too few", b"1 2 3 4 5"), ("too many", b"1 2 3 4 5 6 7"), ("none", b"")):
+        yield row("run: answer 5, " + title, "run t --input n", {"t": ZONES, "n": numbers}, REFUSED, "answer: 5\n", "input block")
+    yield row("run: answer 5, not whole words", "run t --block b", {"t": ZONES, "b": bytes(23)}, REFUSED, "answer: 5\n")
+    yield row("run: answer 1 before 5", "run t --block b", {"t": b"@", "b": bytes(3)}, REFUSED, "answer: 1\n")
+
+
+def example_rows():
+    """Each program of examples/ gives what its file of expected lines says."""
+    folder = os.path.join(os.path.dirname(os.path.abspath(__file__)), "..", "..", "examples")
+    names = sorted(f[:-5] for f in os.listdir(folder) if f.endswith(".rule"))
+    read = lambda name: open(os.path.join(folder, name), "rb").read()
+    for name in names:
+        expected = read(name + ".expected").decode()
+        status = ACCEPTED if "outcome: finished" in expected else STOPPED
+        yield row("example " + name, "run t --input n", {"t": read(name + ".rule"), "n": read(name + ".txt")}, status, expected)
+
+
 def run(program, folder, arguments, **more):
     return subprocess.run([program, *arguments], cwd=folder, stdin=subprocess.DEVNULL, stdout=more.get("stdout", subprocess.PIPE),
                           stderr=subprocess.PIPE, timeout=SECONDS)
@@ -191,12 +299,12 @@ class Suite:
 
     def help(self):
         got = run(self.program, ".", ["help"])
-        self.judge("help", got.returncode != 0 and "status %d" % got.returncode, not got.stdout.startswith(b"usage: doorlang exec") and "no usage", got.stderr and "said something")
+        self.judge("help", got.returncode != 0 and "status %d" % got.returncode, not got.stdout.startswith(b"usage: doorlang check") and "no usage", got.stderr and "said something")
 
 
 def main(program):
     suite = Suite(os.path.abspath(program))
-    for rows in (exec_rows, number_rows, usage_rows, file_rows):
+    for rows in (exec_rows, text_rows, example_rows, number_rows, usage_rows, file_rows):
         for one in rows():
             suite.row(*one)
     suite.memory()

@@ -7,11 +7,15 @@ use lib.ListN.{getD, set}
 use Rattle.word.specs.Choice.{pick, both}
 use Rattle.language.specs.Tokens.{bytes, same, starts, is}
 use Rattle.console.specs.declared.arguments.Command.{Command}
-use Rattle.console.specs.declared.arguments.Command.the-variants.{Help, Exec, Other}
+use Rattle.console.specs.declared.arguments.Command.the-variants.{Help, Check, Run, Exec, Other}
 use Rattle.console.specs.declared.arguments.Seen.{Seen}
 
 unfoldable pub commandOf : List ℕ → Command
-commandOf w = pick (same w (bytes "help")) Help (pick (same w (bytes "exec")) Exec Other)
+commandOf w =
+    pick
+    (same w (bytes "help"))
+    Help
+    (pick (same w (bytes "check")) Check (pick (same w (bytes "run")) Run (pick (same w (bytes "exec")) Exec Other)))
 
 -- The places of what may be given: a place for each option, and for each of two files. A word that is no option's name is a file's, unless it
 -- begins with a dash: then it is unknown.
@@ -55,14 +59,25 @@ placeOf w =
     limit
     (pick (same w (bytes "--room")) room (pick (same w (bytes "--memory")) memory (pick (starts (is "-") w) unknown first))))))
 
+-- the options that a run of a text takes, and a run of an image
+unfoldable pub runTakes : ℕ → Bool
+runTakes p = both (not (eqb p unknown)) (both (not (eqb p limit)) (not (eqb p memory)))
+
+unfoldable pub execTakes : ℕ → Bool
+execTakes p = both (not (eqb p unknown)) (not (eqb p fuel))
+
 -- the options that a command takes, and how many files
 unfoldable pub takesOf : Command → ℕ → Bool
 takesOf Help p = false
-takesOf Exec p = both (not (eqb p unknown)) (not (eqb p fuel))
+takesOf Check p = false
+takesOf Run p = runTakes p
+takesOf Exec p = execTakes p
 takesOf Other p = false
 
 unfoldable pub filesOf : Command → ℕ
 filesOf Help = 0
+filesOf Check = 1
+filesOf Run = 1
 filesOf Exec = 1
 filesOf Other = 0
 

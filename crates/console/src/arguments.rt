@@ -3,10 +3,12 @@ ghost use mathlib.Core.Path.{_≡_};
 ghost use Prim.Native.Nat.{_+_, _<_, _≤_, _^_};
 ghost use lib.ListN.{length, getD, set};
 ghost use Rattle.language.specs.Tokens.{same, starts, is};
-ghost use Rattle.console.specs.Arguments.{commandOf, placeOf, takesOf, filesOf, line, wrong as wrongOf, valued, filed, named, seeOf, ended, said};
+ghost use Rattle.console.specs.Arguments.{commandOf, placeOf, runTakes, execTakes, takesOf, filesOf, line, wrong as wrongOf, valued, filed, named, seeOf, ended, said};
 
 pub enum Command {
     Help,
+    Check,
+    Run,
     Exec,
     Other,
 }
@@ -86,6 +88,12 @@ pub fn command_of(word: &[u8]) -> Command
     if is_spelt(word, b"help") {
         return Command::Help;
     }
+    if is_spelt(word, b"check") {
+        return Command::Check;
+    }
+    if is_spelt(word, b"run") {
+        return Command::Run;
+    }
     if is_spelt(word, b"exec") {
         return Command::Exec;
     }
@@ -120,18 +128,38 @@ pub fn place_of(word: &[u8]) -> usize
     FIRST
 }
 
+// Whether a run of a text takes the option of that place.
+fn run_takes(place: usize) -> bool
+    ensures { λ r. ⌜ r ≡ runTakes place ⌝ }
+{
+    if place == UNKNOWN {
+        return false;
+    }
+    if place == LIMIT {
+        return false;
+    }
+    place != MEMORY
+}
+
+// Whether a run of an image does.
+fn exec_takes(place: usize) -> bool
+    ensures { λ r. ⌜ r ≡ execTakes place ⌝ }
+{
+    if place == UNKNOWN {
+        return false;
+    }
+    place != FUEL
+}
+
 // Whether the command takes the option of that place.
 fn takes(command: Command, place: usize) -> bool
     ensures { λ r. ⌜ r ≡ takesOf command place ⌝ }
 {
     match command {
         Command::Help => false,
-        Command::Exec => {
-            if place == UNKNOWN {
-                return false;
-            }
-            place != FUEL
-        }
+        Command::Check => false,
+        Command::Run => run_takes(place),
+        Command::Exec => exec_takes(place),
         Command::Other => false,
     }
 }
@@ -142,6 +170,8 @@ fn files(command: Command) -> usize
 {
     match command {
         Command::Help => 0,
+        Command::Check => 1,
+        Command::Run => 1,
         Command::Exec => 1,
         Command::Other => 0,
     }

@@ -24,7 +24,7 @@ fn memory_room() -> [u8; 2097152] {
     [0; 2097152]
 }
 
-fn log_room() -> [u32; 65536] {
+pub fn log_room() -> [u32; 65536] {
     [0; 65536]
 }
 
@@ -132,8 +132,7 @@ fn show(
         tell_stop(s);
         return status_of(s);
     }
-    tell(b"doorlang: cannot write to standard output\n");
-    output::BAD_USAGE
+    output::unwritten()
 }
 
 // The memory after the run, where --memory asks for it, then the lines.

@@ -138,6 +138,14 @@ pub fn read_numbers(i: usize, block: &mut [u8]) -> Got
     }
 }
 
+// Whether an option gives an input block.
+pub fn has_block(given: &[usize]) -> bool {
+    if arguments::given_for(given, arguments::INPUT) != 0 {
+        return true;
+    }
+    arguments::given_for(given, arguments::BLOCK) != 0
+}
+
 // The input block that --input or --block gives; with neither an empty one.
 pub fn read_block(given: &[usize], block: &mut [u8]) -> Got
     ensures { λ r. ⌜ r .size ≤ length (now (block .entry)) ⌝ }

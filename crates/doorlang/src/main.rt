@@ -6,10 +6,13 @@ use console::arguments::Command;
 use console::arguments::Seen;
 use output::tell;
 
+mod check; // the answer to a text
 mod exec; // the run of an image
 mod files; // files by the arguments that name them
 mod help; // how the program is used
 mod output; // lines, sentences and the status
+mod run; // the run of a text
+mod texts; // a text, its working room and its refusal
 mod values; // the numbers that options give
 
 // The most arguments: more than any command takes.
@@ -45,6 +48,8 @@ fn wrong(s: Seen) -> u32 {
 fn perform(command: Command, given: &[usize]) -> u32 {
     match command {
         Command::Help => help::help(),
+        Command::Check => check::check(given),
+        Command::Run => run::run(given),
         Command::Exec => exec::exec(given),
         Command::Other => output::BAD_USAGE,
     }
@@ -95,6 +100,8 @@ fn command(count: usize, table: &mut [usize], given: &mut [usize]) -> u32
             return bad_usage(b"there is no such command", 1);
         }
         Command::Help => (),
+        Command::Check => (),
+        Command::Run => (),
         Command::Exec => (),
     }
     let long = places(count, table);

@@ -61,11 +61,17 @@ pub fn say_number(n: u64) -> bool {
     io::print_decimal(STDOUT_FILENO, n)
 }
 
-// A line whose value is a number.
-pub fn line(key: &[u8], n: u64) {
+// A line whose value is a number: whether it could be written.
+pub fn line(key: &[u8], n: u64) -> bool {
     say(key);
     io::print_decimal(STDOUT_FILENO, n);
-    say(b"\n");
+    say(b"\n")
+}
+
+// What is said and answered where standard output cannot be written.
+pub fn unwritten() -> u32 {
+    tell(b"doorlang: cannot write to standard output\n");
+    BAD_USAGE
 }
 
 // A word in hex, with all its digits.
@@ -87,8 +93,8 @@ pub fn pc_line(key: &[u8], pc: u32) {
     say(b"\n");
 }
 
-// So many words of a log.
-pub fn log_line(key: &[u8], log: &[u32], count: usize) {
+// So many words of a log: whether the line could be written.
+pub fn log_line(key: &[u8], log: &[u32], count: usize) -> bool {
     say(key);
     let mut i: usize = 0;
     while i < count {
@@ -97,7 +103,7 @@ pub fn log_line(key: &[u8], log: &[u32], count: usize) {
         }
         i += 1;
     }
-    end_line();
+    end_line()
 }
 
 // The word at this byte of memory; 0 past its end.

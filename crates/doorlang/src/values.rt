@@ -11,6 +11,8 @@ pub const MOST_ROOM: u64 = 65536;
 
 pub const ROOM: u64 = 1000;
 
+pub const FUEL: u64 = 1000000;
+
 pub const LIMIT: u64 = 100000000;
 
 pub const MOST: u64 = 18446744073709551615;
