@@ -1,0 +1,4 @@
+pub mod Arguments
+pub mod Numbers
+pub mod Places
+pub mod Shown

@@ -1,0 +1,37 @@
+// `doorlang help`: how the program is used.
+use crate::output;
+
+// How the program is used, written to this descriptor: whether it could be.
+pub fn usage(to: i32) -> bool {
+    io::write_all(to, b"usage: doorlang check TEXT\n");
+    io::write_all(
+        to,
+        b"       doorlang run TEXT [--input FILE | --block FILE] [--fuel N] [--room N]\n",
+    );
+    io::write_all(
+        to,
+        b"       doorlang exec IMAGE [--input FILE | --block FILE] [--limit N] [--room N] [--memory FILE]\n",
+    );
+    io::write_all(to, b"       doorlang help\n")
+}
+
+pub fn help() -> u32 {
+    usage(libc::STDOUT_FILENO);
+    io::write_all(libc::STDOUT_FILENO, b"\n");
+    output::say(b"check    says whether a rule program is accepted\n");
+    output::say(b"run      runs a rule program\n");
+    output::say(b"exec     runs an image on the panel processor\n");
+    output::say(b"help     prints this\n\n");
+    output::say(b"--input FILE   the arrays as text: decimal numbers between blanks\n");
+    output::say(b"--block FILE   the arrays as raw words, lowest byte first\n");
+    output::say(b"--fuel N       the fuel of a run (1000000)\n");
+    output::say(b"--limit N      the most steps (100000000)\n");
+    output::say(b"--room N       the most numbers in the log (1000, at most 65536)\n");
+    output::say(b"--memory FILE  writes the 2 MiB of memory after the run\n\n");
+    if output::say(
+        b"Exit status: 0 accepted, finished or exit; 1 refused; 2 trap, fault, out of fuel or limit; 64 bad usage, or a file that cannot be read or written.\n",
+    ) {
+        return output::DONE;
+    }
+    output::BAD_USAGE
+}

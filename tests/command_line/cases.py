@@ -1,0 +1,318 @@
+#!/usr/bin/env python3
+"""Runs the command-line program: every command, every answer, bad usage, and files of every kind.
+
+    tests/command_line/cases.py PROGRAM      the last line is 'N passed, M failed'
+
+A row is a title, the arguments, the files that they name, and what must come of it: the exit status, standard output whole, and what
+standard error has in it. PROGRAM is the launcher, which sets the exit status.
+"""
+import os
+import struct
+import subprocess
+import sys
+import tempfile
+
+ACCEPTED, REFUSED, STOPPED, USAGE = 0, 1, 2, 64
+SECONDS = 60
+
+
+def code(*words):
+    """An image of these words."""
+    return b"".join(struct.pack("<I", w) for w in words)
+
+
+# Words of document 03 section 6 and of its formats.
+ECALL, EBREAK, NOP, LOOP = 0x00000073, 0x00100073, 0x00000013, 0x0000006F
+CALL_EXIT, CALL_EMIT, CALL_TRAP = 0x00000893, 0x00100893, 0x00200893
+
+
+def x10(n):
+    """addi x10, x0, n"""
+    return (n & 0xFFF) << 20 | 0x513
+
+
+EXIT = code(ECALL)
+EMIT_42 = code(CALL_EMIT, x10(42), ECALL, CALL_EXIT, ECALL)
+# lw x10, 0(x5); addi x10, x10, 1; sw x10, 4(x5), where x5 is the block's start
+NEXT = code(0x001002B7, 0x0002A503, 0x00150513, 0x00A2A223, ECALL)
+# -2147483648 and -1, logged
+LEAST = code(CALL_EMIT, 0x80000537, ECALL, x10(-1), ECALL, CALL_EXIT, ECALL)
+
+
+def registers(**set_):
+    return "registers: " + " ".join("0x%08x" % set_.get("x%d" % i, 0) for i in range(32)) + "\n"
+
+
+def ran(stop, steps, pc, log="", arrays="", **set_):
+    """The lines of exec."""
+    line = lambda key, value: "%s:%s\n" % (key, " " + value if value else "")
+    return ("answer: 0\nstop: %s\nsteps: %d\npc: 0x%08x\n" % (stop, steps, pc) + line("log", log) + line("arrays", arrays) + registers(**set_))
+
+
+def row(title, arguments, files, status, out, *said):
+    return title, arguments.split(), files, status, out, said
+
+
+def exec_rows():
+    """Every stop of document 03 section 4, every answer of section 5, every option."""
+    yield row("exit", "exec i", {"i": EXIT}, ACCEPTED, ran("exit", 1, 0x1000), "i: the run ended by exit")
+    yield row("a trap", "exec i", {"i": code(CALL_TRAP, x10(7), ECALL)}, STOPPED, ran("trap 7", 3, 0x1008, x10=7, x17=2), "i: ")
+    yield row("a trap that is a large number", "exec i", {"i": code(CALL_TRAP, x10(-1), ECALL)}, STOPPED,
+              ran("trap 4294967295", 3, 0x1008, x10=0xFFFFFFFF, x17=2))
+    yield row("trap 1 in words", "exec i", {"i": code(CALL_TRAP, x10(1), ECALL)}, STOPPED, ran("trap 1", 3, 0x1008, x10=1, x17=2), "zero")
+    yield row("a log", "exec i", {"i": EMIT_42}, ACCEPTED, ran("exit", 5, 0x1010, "42", x10=42))
+    yield row("a log below zero", "exec i", {"i": LEAST}, ACCEPTED, ran("exit", 7, 0x1018, "-2147483648 -1", x10=0xFFFFFFFF))
+    yield row("fault 1 after the code's end", "exec i", {"i": code(NOP)}, STOPPED, ran("fault 1", 1, 0x1004), "fault 1")
+    yield row("fault 2", "exec i", {"i": code(0)}, STOPPED, ran("fault 2", 1, 0x1000), "unknown")
+    yield row("fault 3", "exec i", {"i": code(0x00002223)}, STOPPED, ran("fault 3", 1, 0x1000), "fault 3")
+    yield row("fault 4", "exec i", {"i": code(EBREAK)}, STOPPED, ran("fault 4", 1, 0x1000), "ebreak")
+    yield row("fault 5", "exec i", {"i": code(0x00300893, ECALL)}, STOPPED, ran("fault 5", 2, 0x1004, x17=3), "fault 5")
+    yield row("limit", "exec i --limit 100", {"i": code(LOOP)}, STOPPED, ran("limit", 100, 0x1000), "limit")
+    yield row("limit 0", "exec i --limit 0", {"i": EXIT}, STOPPED, ran("limit", 0, 0x1000))
+    yield row("limit 1 on one nop", "exec --limit 1 i", {"i": code(NOP)}, STOPPED, ran("limit", 1, 0x1004))
+    yield row("the largest limit", "exec i --limit 18446744073709551615", {"i": EXIT}, ACCEPTED, ran("exit", 1, 0x1000))
+    yield row("trap 4 at a full log", "exec i --room 0", {"i": EMIT_42}, STOPPED, ran("trap 4", 3, 0x1008, x10=42, x17=1), "the log is full")
+    yield row("the largest room", "exec i --room 65536", {"i": EMIT_42}, ACCEPTED, ran("exit", 5, 0x1010, "42", x10=42))
+    yield row("an input text", "exec i --input n", {"i": NEXT, "n": b"41 0"}, ACCEPTED, ran("exit", 5, 0x1010, "", "41 42", x5=0x100000, x10=42))
+    yield row("an input text in lines", "exec i --input n", {"i": EXIT, "n": b"\n 1\t-2\r\n\n-0 007\n"}, ACCEPTED, ran("exit", 1, 0x1000, "", "1 -2 0 7"))
+    yield row("the ends of the range", "exec i --input n", {"i": EXIT, "n": b"-2147483648 2147483647"}, ACCEPTED,
+              ran("exit", 1, 0x1000, "", "-2147483648 2147483647"))
+    yield row("an empty input text", "exec i --input n", {"i": EXIT, "n": b""}, ACCEPTED, ran("exit", 1, 0x1000))
+    yield row("an input text of more than a buffer", "exec i --input n", {"i": EXIT, "n": b"12345 " * 20000}, ACCEPTED,
+              ran("exit", 1, 0x1000, "", " ".join(["12345"] * 20000)))
+    yield row("a raw block", "exec --block b i", {"i": NEXT, "b": struct.pack("<iii", -3, 0, 9)}, ACCEPTED,
+              ran("exit", 5, 0x1010, "", "-3 -2 9", x5=0x100000, x10=0xFFFFFFFE))
+    yield row("an empty image", "exec i", {"i": b""}, STOPPED, ran("fault 1", 0, 0x1000))
+    yield row("a text as image", "exec i", {"i": b"fn main() { }\n\n\n"}, STOPPED, ran("fault 2", 1, 0x1000))
+    yield row("the longest image", "exec i", {"i": code(ECALL) + bytes(524284)}, ACCEPTED, ran("exit", 1, 0x1000))
+    yield row("the longest block", "exec i --block b", {"i": EXIT, "b": bytes(1048576)}, ACCEPTED, ran("exit", 1, 0x1000, "", " ".join(["0"] * 262144)))
+    yield row("answer 4: not whole words", "exec i", {"i": EXIT + b"\0"}, REFUSED, "answer: 4\n", "i: the code")
+    yield row("answer 4: too long", "exec i", {"i": bytes(524292)}, REFUSED, "answer: 4\n", "longer")
+    yield row("answer 4: much too long", "exec i", {"i": bytes(5000000)}, REFUSED, "answer: 4\n")
+    yield row("answer 4 before answer 5", "exec i --block b", {"i": b"\0", "b": b"\0"}, REFUSED, "answer: 4\n")
+    yield row("answer 5: not whole words", "exec i --block b", {"i": EXIT, "b": b"\1\2\3"}, REFUSED, "answer: 5\n", "input block")
+    yield row("answer 5: too long", "exec i --block b", {"i": EXIT, "b": bytes(1048580)}, REFUSED, "answer: 5\n", "input block")
+
+
+def number_rows():
+    """Numbers out of range, and what is no number."""
+    for option, most in (("--room", 65536), ("--limit", 2**64 - 1)):
+        yield row("%s too large" % option, "exec i %s %d" % (option, most + 1), {"i": EXIT}, USAGE, "", option, "the most is %d" % most)
+        yield row("%s much too large" % option, "exec i %s %s" % (option, "9" * 300), {"i": EXIT}, USAGE, "", "the most is")
+        for wrong in ("x", "12x", "-1", "+1", "1.5", "0x10"):
+            yield row("%s %s" % (option, wrong), "exec i %s %s" % (option, wrong), {"i": EXIT}, USAGE, "", option + " " + wrong, "no decimal number")
+    for title, text, said in (("a word", b"1 2 three", "number 3 is not a decimal"), ("a dash", b"1 - 2", "number 2 is not a decimal"),
+                              ("two dashes", b"--1", "number 1 is not a decimal"), ("a dash inside", b"1-2", "number 1 is not a decimal"),
+                              ("a plus", b"+1", "number 1 is not a decimal"), ("a fraction", b"1.5", "number 1 is not a decimal"),
+                              ("a dash at the end", b"1 -", "number 2 is not a decimal"), ("binary garbage", bytes(range(256)), "number 1 is not a decimal"),
+                              ("above the range", b"0 2147483648", "number 2 is not between"), ("below the range", b"-2147483649", "number 1 is not between"),
+                              ("far above the range", b"9" * 100000, "number 1 is not between"), ("too many", b"0 " * 262145, "more numbers")):
+        yield row("input: " + title, "exec i --input n", {"i": EXIT, "n": text}, USAGE, "", "n: ", said)
+
+
+def usage_rows():
+    """Bad usage names what is wrong and prints the usage."""
+    for title, arguments, *said in (("no command", "", "no command"), ("an unknown command", "fly i", "no such command", "fly"),
+                                    ("no file", "exec", "lacks a file"), ("two files", "exec i j", "a file more", "j"),
+                                    ("an unknown option", "exec i --loud 3", "no such option", "--loud"), ("a short option", "exec -i", "no such option", "-i"),
+                                    ("an option of another command", "exec i --fuel 3", "no such option", "--fuel"), ("an option twice", "exec i --room 1 --room 1", "twice", "--room"),
+                                    ("no value", "exec i --limit", "no value", "--limit"), ("input and block", "exec i --input a --block b", "--input and --block"),
+                                    ("help with a file", "help i", "a file more", "i"), ("help with an option", "help --room 3", "no such option", "--room"),
+                                    ("many arguments", "exec" + " i" * 40, "more arguments")):
+        yield row(title, arguments, {"i": EXIT, "j": EXIT}, USAGE, "", *said, "usage: doorlang")
+    yield "an empty name", ["exec", ""], {}, USAGE, "", ("cannot read",)
+    yield "a name that is too long", ["exec", "n" * 5000], {}, USAGE, "", ("longer than",)
+
+
+def file_rows():
+    """Files that cannot be read or written."""
+    yield row("a missing image", "exec none", {}, USAGE, "", "cannot read none", "No such file")
+    yield row("a folder as image", "exec .", {}, USAGE, "", "cannot read .")
+    yield row("a missing input", "exec i --input none", {"i": EXIT}, USAGE, "", "cannot read none")
+    yield row("a folder as input", "exec i --input .", {"i": EXIT}, USAGE, "", "cannot read .")
+    yield row("a missing block", "exec i --block none", {"i": EXIT}, USAGE, "", "cannot read none")
+    yield row("an endless image", "exec /dev/zero", {}, REFUSED, "answer: 4\n")
+    yield row("memory that cannot be written", "exec i --memory none/m", {"i": EXIT}, USAGE, "", "cannot write none/m")
+    yield row("memory on a full device", "exec i --memory /dev/full", {"i": EXIT}, USAGE, "", "cannot write /dev/full")
+
+
+GCD = b"""fn gcd(a: int, b: int): int {
+  while b != 0 { let t: int = a % b; a = b; b = t; }
+  return a;
+}
+fn main() { emit gcd(12, 18); emit gcd(-12, 18); emit gcd(5, 0); }
+"""
+ZONES = b"""var smoke: int[4];
+var door: int[2];
+fn alarm(z: int): bool { return smoke[z] >= 70 || smoke[z] < 0; }
+fn main() {
+  let n: int = 0;
+  let z: int = 0;
+  while z < 4 {
+    if alarm(z) { n = n + 1; emit z; }
+    z = z + 1;
+  }
+  if n >= 2 { door[0] = 1; door[1] = 1; emit 100; }
+  else { if n == 1 { door[0] = 1; } }
+}
+"""
+ECHO = b"fn f(x: int): int { emit x; return x; }\n"
+DEPTH = b"fn f(n: int): int { if n == 0 { return 0; } else { return 1 + f(n - 1); } }\n"
+
+
+def main_of(body, before=b""):
+    return before + b"fn main() { " + body + b" }\n"
+
+
+# Document 01 section 6: a text, its arrays, the outcome, the log, the arrays after it, and the fuel used.
+RUNS = (
+    ("text G", GCD, "", "finished", "6 6 5", "", 97),
+    ("text Z, quiet", ZONES, "10 20 30 69 0 0", "finished", "", "10 20 30 69 0 0", 96),
+    ("text Z, one", ZONES, "10 70 30 5 0 0", "finished", "1", "10 70 30 5 1 0", 101),
+    ("text Z, two", ZONES, "99 20 -1 5 0 0", "finished", "0 2 100", "99 20 -1 5 1 1", 108),
+    ("nothing", main_of(b""), "", "finished", "", "", 0),
+    ("one emit", main_of(b"emit 1;"), "", "finished", "1", "", 2),
+    ("trap 1", main_of(b"emit 1; emit 7 / (3 - 3); emit 2;"), "", "trap 1", "1", "", 8),
+    ("signs", main_of(b"let m: int = -2147483647 - 1; emit m / -1; emit m % -1; emit -7 / 2; emit -7 % 2; emit 7 / -2; emit 7 % -2; emit -m;"), "", "finished",
+     "-2147483648 0 -3 -1 -3 1 -2147483648", "", 38),
+    ("wrapping", main_of(b"emit 2147483647 + 1; emit 65536 * 65536; emit 65537 * 65537;"), "", "finished", "-2147483648 0 131073", "", 12),
+    ("trap 2", main_of(b"a[2] = 5; emit a[2]; emit a[3];", b"var a: int[3];\n"), "0 0 0", "trap 2", "5", "0 0 5", 9),
+    ("left to right", main_of(b"emit f(1) + f(2) * f(3);", ECHO), "", "finished", "1 2 3 7", "", 21),
+    ("index, value, test", main_of(b"a[f(1)] = f(0); a[f(2)] = f(9) / 0;", ECHO + b"var a: int[2];\n"), "0 0", "trap 1", "1 0 2 9", "0 0", 28),
+    ("64 activations", main_of(b"emit f(62);", DEPTH), "", "finished", "62", "", 691),
+    ("65 activations", main_of(b"emit f(63);", DEPTH), "", "trap 3", "", "", 696),
+)
+
+# Document 01 section 6: texts that are refused, the answer, and the place that is said.
+REFUSALS = (
+    ("a number too large", main_of(b"emit 2147483648;"), 1, "t:1:18"),
+    ("a leading zero", main_of(b"emit 01;"), 1, "t:1:18"),
+    ("a letter after a number", main_of(b"emit 12a;"), 1, "t:1:"),
+    ("a long name", main_of(b"let " + b"n" * 33 + b": int = 0;"), 1, "t:1:"),
+    ("a chain of comparisons", main_of(b"if 1 < 2 < 3 { }"), 1, "t:1:"),
+    ("32 parentheses", main_of(b"emit " + b"(" * 32 + b"1" + b")" * 32 + b";"), 1, "t:1:"),
+    ("an upper-case letter", b"fn Main() { }\n", 1, "t:1:4"),
+    ("a fault in the third line", b"# a\n# b\n  @\n", 1, "t:3:3"),
+    ("binary garbage", bytes(range(256)), 1, "t:1:1"),
+    ("a text that is too long", b" " * 65536 + b"\n", 1, "65536"),
+    ("a huge text", b"#" * 1000000, 1, "65536"),
+    ("the empty text", b"", 2, "t:"),
+    ("no main", b"fn f() { }\n", 2, "t:"),
+    ("a let that hides", main_of(b"let a: int = 1; let a: int = 2;"), 2, "t:1:"),
+    ("a let in its own value", main_of(b"let a: int = a;"), 2, "t:1:"),
+    ("an order of bools", main_of(b"if true < false { }"), 2, "t:1:"),
+    ("an array without index", main_of(b"emit a;", b"var a: int[1];\n"), 2, "t:2:"),
+    ("a while at the end", b"fn f(): int { while true { return 1; } }\n" + main_of(b""), 2, "t:"),
+    ("an if without else at the end", b"fn f(): int { if true { return 1; } }\n" + main_of(b""), 2, "t:"),
+)
+
+
+def lines(**values):
+    return "".join("%s:%s\n" % (key.replace("_", "-"), " " + str(value) if value != "" else "") for key, value in values.items())
+
+
+def text_rows():
+    """Every answer to a text, and every vector of its run."""
+    for title, text, answer, said in REFUSALS:
+        for command in ("check", "run"):
+            yield row("%s: %s" % (command, title), command + " t", {"t": text}, REFUSED, "answer: %d\n" % answer, said)
+    for title, text, arrays, outcome, log, after, fuel in RUNS:
+        status = ACCEPTED if outcome == "finished" else STOPPED
+        yield row("check: " + title, "check t", {"t": text}, ACCEPTED, "answer: 0\n", "accepted")
+        yield row("run: " + title, "run t --input n", {"t": text, "n": arrays.encode()}, status,
+                  lines(answer=0, outcome=outcome, fuel=fuel, log=log, arrays=after))
+    yield row("run: zeros", "run t", {"t": ZONES}, ACCEPTED, lines(answer=0, outcome="finished", fuel=96, log="", arrays="0 0 0 0 0 0"))
+    yield row("run: a raw block", "run t --block b", {"t": ZONES, "b": struct.pack("<6i", 99, 20, -1, 5, 0, 0)}, ACCEPTED,
+              lines(answer=0, outcome="finished", fuel=108, log="0 2 100", arrays="99 20 -1 5 1 1"))
+    yield row("run: out of fuel", "run t --fuel 1000", {"t": main_of(b"while true { }")}, STOPPED, lines(answer=0, outcome="out of fuel", fuel=1000, log="", arrays=""), "fuel")
+    yield row("run: no fuel", "run t --fuel 0", {"t": main_of(b"emit 1;")}, STOPPED, lines(answer=0, outcome="out of fuel", fuel=0, log="", arrays=""))
+    yield row("run: trap 4", "run t --room 2", {"t": main_of(b"emit 1; emit 2; emit 3;")}, STOPPED, lines(answer=0, outcome="trap 4", fuel=6, log="1 2", arrays=""), "full")
+    for title, numbers in (("too few", b"1 2 3 4 5"), ("too many", b"1 2 3 4 5 6 7"), ("none", b"")):
+        yield row("run: answer 5, " + title, "run t --input n", {"t": ZONES, "n": numbers}, REFUSED, "answer: 5\n", "input block")
+    yield row("run: answer 5, not whole words", "run t --block b", {"t": ZONES, "b": bytes(23)}, REFUSED, "answer: 5\n")
+    yield row("run: answer 1 before 5", "run t --block b", {"t": b"@", "b": bytes(3)}, REFUSED, "answer: 1\n")
+
+
+def example_rows():
+    """Each program of examples/ gives what its file of expected lines says."""
+    folder = os.path.join(os.path.dirname(os.path.abspath(__file__)), "..", "..", "examples")
+    names = sorted(f[:-5] for f in os.listdir(folder) if f.endswith(".rule"))
+    read = lambda name: open(os.path.join(folder, name), "rb").read()
+    for name in names:
+        expected = read(name + ".expected").decode()
+        status = ACCEPTED if "outcome: finished" in expected else STOPPED
+        yield row("example " + name, "run t --input n", {"t": read(name + ".rule"), "n": read(name + ".txt")}, status, expected)
+
+
+def run(program, folder, arguments, **more):
+    return subprocess.run([program, *arguments], cwd=folder, stdin=subprocess.DEVNULL, stdout=more.get("stdout", subprocess.PIPE),
+                          stderr=subprocess.PIPE, timeout=SECONDS)
+
+
+class Suite:
+    def __init__(self, program):
+        self.program, self.passed, self.failed = program, 0, 0
+
+    def judge(self, title, *wrongs):
+        wrongs = [w for w in wrongs if w]
+        if wrongs:
+            self.failed += 1
+            print("FAILED: %s: %s" % (title, "; ".join(wrongs)))
+        else:
+            self.passed += 1
+
+    def row(self, title, arguments, files, status, out, said):
+        with tempfile.TemporaryDirectory() as folder:
+            for name, content in files.items():
+                with open(os.path.join(folder, name), "wb") as f:
+                    f.write(content)
+            got = run(self.program, folder, arguments)
+            error = got.stderr.decode(errors="replace")
+            self.judge(title,
+                       got.returncode != status and "status %d, not %d" % (got.returncode, status),
+                       got.stdout.decode(errors="replace") != out and "wrote %r, not %r" % (got.stdout[:300], out[:300]),
+                       *("standard error lacks %r: %r" % (s, error[:300]) for s in said if s not in error),
+                       sorted(os.listdir(folder)) != sorted(files) and "left other files")
+
+    def memory(self):
+        """--memory writes the memory of document 03 section 1 after the run."""
+        with tempfile.TemporaryDirectory() as folder:
+            for name, content in (("i", NEXT), ("n", b"41 0"), ("b", b"\0")):
+                with open(os.path.join(folder, name), "wb") as f:
+                    f.write(content)
+            got = run(self.program, folder, ["exec", "i", "--input", "n", "--memory", "m"])
+            with open(os.path.join(folder, "m"), "rb") as f:
+                memory = f.read()
+            wanted = (bytes(0x1000) + NEXT).ljust(0x100000, b"\0") + struct.pack("<II", 41, 42)
+            self.judge("memory", got.returncode != 0 and "status %d" % got.returncode, memory != wanted.ljust(0x200000, b"\0") and "another memory")
+            got = run(self.program, folder, ["exec", "b", "--memory", "none"])
+            self.judge("no memory of a refused run", got.returncode != REFUSED and "status %d" % got.returncode, os.path.exists(os.path.join(folder, "none")) and "it is there")
+
+    def full_output(self):
+        """Standard output that cannot be written is no success."""
+        with tempfile.TemporaryDirectory() as folder, open("/dev/full", "wb") as full:
+            with open(os.path.join(folder, "i"), "wb") as f:
+                f.write(EXIT)
+            for arguments in (["exec", "i"], ["help"]):
+                got = run(self.program, folder, arguments, stdout=full)
+                self.judge("%s with a full output" % arguments[0], got.returncode != USAGE and "status %d" % got.returncode)
+
+    def help(self):
+        got = run(self.program, ".", ["help"])
+        self.judge("help", got.returncode != 0 and "status %d" % got.returncode, not got.stdout.startswith(b"usage: doorlang check") and "no usage", got.stderr and "said something")
+
+
+def main(program):
+    suite = Suite(os.path.abspath(program))
+    for rows in (exec_rows, text_rows, example_rows, number_rows, usage_rows, file_rows):
+        for one in rows():
+            suite.row(*one)
+    suite.memory()
+    suite.full_output()
+    suite.help()
+    print("%d passed, %d failed" % (suite.passed, suite.failed))
+    return 1 if suite.failed else 0
+
+
+if __name__ == "__main__":
+    sys.exit(main(sys.argv[1]))
