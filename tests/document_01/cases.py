@@ -5,7 +5,8 @@ The answers come from `read` below, a second reading of document 01 sections 2 a
 the document's own lines. Run it again after a change; it must leave both files as they are (`--check` says whether it would).
 
 A line of stdin is `"` and a title; `r` and a text; `w` and a text, whose tree is answered word by word; `b` and a text, of which every
-beginning is read; or `l`, two numbers in hex that say how many words are lent for tokens and for the tree, and a text. In a text `\\` begins
+beginning is read; `l`, two numbers in hex that say how many words are lent for tokens and for the tree, and a text; or `m`, a number that
+says how many times, and a text, which is answered once. In a text `\\` begins
 `\\n`, `\\t`, `\\r`, `\\\\`, `\\xHH`, a mark `\\(`, or `\\)` with a number in hex and `;`: what was written since the mark, so many times in all.
 """
 import os
@@ -447,6 +448,10 @@ for body in (b";", b"1;", b"a;", b"a", b"a = ;", b"a = 1", b"a += 1;", b"a[1];",
 title("working room that is a word short, and none")
 for room, tree in ((196608, 524288), (196607, 524288), (196608, 524287), (0, 524288), (196608, 0), (0, 0)):
     for text in (G, b"\x00", b""): lent(room, tree, text)
+
+title("text Z a hundred times, after another")
+asks.append("m 64 " + escaped([Z]))
+answers.append(answer(Z))
 
 title("every beginning of text Z, and of text G")
 beginnings(Z)

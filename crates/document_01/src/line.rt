@@ -109,6 +109,16 @@ fn two_digits(line: &[u8], i: usize) -> u8
     ((high * 16 + low) % 256) as u8
 }
 
+// One byte put there, and the line goes on at `next`.
+fn one(text: &mut [u8], at: usize, mark: usize, b: u8, next: usize) -> Place {
+    let end = put(text, at, b);
+    Place {
+        next,
+        at: end,
+        mark,
+    }
+}
+
 // What follows a backslash: `n`, `t`, `r`, `x` and two digits, a mark `(`, `)` and a number of copies since the mark; else the byte itself.
 fn escaped(line: &[u8], i: usize, text: &mut [u8], at: usize, mark: usize) -> Place
     requires { ⌜ i < 2 ^ 63 ⌝ }
@@ -116,40 +126,21 @@ fn escaped(line: &[u8], i: usize, text: &mut [u8], at: usize, mark: usize) -> Pl
     let next = i + 1;
     let b = byte(line, i);
     match b {
-        b'n' => Place {
-            next,
-            at: put(text, at, b'\n'),
-            mark,
-        },
-        b't' => Place {
-            next,
-            at: put(text, at, b'\t'),
-            mark,
-        },
-        b'r' => Place {
-            next,
-            at: put(text, at, b'\r'),
-            mark,
-        },
-        b'x' => Place {
-            next: i + 3,
-            at: put(text, at, two_digits(line, next)),
-            mark,
-        },
+        b'n' => one(text, at, mark, b'\n', next),
+        b't' => one(text, at, mark, b'\t', next),
+        b'r' => one(text, at, mark, b'\r', next),
+        b'x' => one(text, at, mark, two_digits(line, next), i + 3),
         b'(' => Place { next, at, mark: at },
         b')' => {
             let n = number(line, next);
+            let end = copies(text, mark, at, n.value);
             Place {
                 next: n.next,
-                at: copies(text, mark, at, n.value),
+                at: end,
                 mark,
             }
         }
-        _ => Place {
-            next,
-            at: put(text, at, b),
-            mark,
-        },
+        _ => one(text, at, mark, b, next),
     }
 }
 
@@ -162,11 +153,7 @@ fn piece(line: &[u8], i: usize, text: &mut [u8], at: usize, mark: usize) -> Plac
     if b == b'\\' {
         return escaped(line, next, text, at, mark);
     }
-    Place {
-        next,
-        at: put(text, at, b),
-        mark,
-    }
+    one(text, at, mark, b, next)
 }
 
 // The text that a line holds from there on, and how many bytes it has.

@@ -111,6 +111,19 @@ fn read_with(line: &[u8], text: &mut [u8], room: &mut [u32], tree: &mut [u32]) {
     read_first(n, text, &mut room[..rs], &mut tree[..ts], false)
 }
 
+// How many times, then a text: read so often, and answered once.
+fn read_times(line: &[u8], text: &mut [u8], room: &mut [u32], tree: &mut [u32]) {
+    let times = line::number(line, 2);
+    let n = line::plain(line, times.next, text);
+    let size = line::at_most(n as u64, text.len());
+    let mut i: u64 = 1;
+    while i < times.value {
+        grammar::parse(&text[..size], room, tree);
+        i += 1;
+    }
+    read_first(n, text, room, tree, false)
+}
+
 fn title(line: &[u8]) {
     if 0 < line.len() {
         say(&line[1..]);
@@ -119,7 +132,7 @@ fn title(line: &[u8]) {
 }
 
 // A line: `"` and a title, `r` and a text, `w` and a text whose tree is said word by word, `b` and a text of which every beginning is read,
-// `l` and what is lent and a text. Any other is passed over.
+// `l` and what is lent and a text, `m` and how many times and a text. Any other is passed over.
 fn one_line(line: &[u8], text: &mut [u8], room: &mut [u32], tree: &mut [u32]) {
     match line::byte(line, 0) {
         b'"' => title(line),
@@ -127,6 +140,7 @@ fn one_line(line: &[u8], text: &mut [u8], room: &mut [u32], tree: &mut [u32]) {
         b'w' => read(line, text, room, tree, true),
         b'b' => read_beginnings(line, text, room, tree),
         b'l' => read_with(line, text, room, tree),
+        b'm' => read_times(line, text, room, tree),
         _ => (),
     }
 }

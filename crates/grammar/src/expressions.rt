@@ -115,7 +115,7 @@ fn operand(
     out: &mut [u32],
     at: usize,
 ) -> Got
-    requires { ⌜ (Room (now ts) n (now out) i at) × (k ≡ fieldOf (now ts) n i 0) × (i < n) × (l < 6) ⌝ }
+    requires { ⌜ (Room (now ts) n (now out) i at) × (k ≡ fieldOf (now ts) n i 0) × (i < n) × (0 < l) × (l < 6) ⌝ }
     ensures { λ r. ⌜ Told right-form (λ tok. operandOf tok (levelled tok h) l d i) (now (ts .entry)) n (now (out .entry)) i at r (now (out .exit)) ⌝ }
 {
     let p = field(ts, n, i, 1);

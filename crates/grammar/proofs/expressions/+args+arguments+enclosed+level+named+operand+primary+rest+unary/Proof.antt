@@ -448,13 +448,13 @@ operand-item-kind-requires : (t : ℕ) → operand-lts.Need-item-kind-requires (
 operand-item-kind-requires t c κs = search needs
 
 operand-add-level : (t : ℕ) → operand-lts.Need-add-level (operand-calls t) (operand-at t) operand.Post
-operand-add-level t c = omega (arith, c .before .before .before .before .before .pre .1 .3)
+operand-add-level t c = omega (arith, c .before .before .before .before .before .pre .1 .4)
 
 operand-add-level-2 : (t : ℕ) → operand-lts.Need-add-level-2 (operand-calls t) (operand-at t) operand.Post
 operand-add-level-2 t c = omega (arith, c .before .before .before .before .before .pre .1 .0 .few, c .before .before .before .before .before .pre .1 .2)
 
 operand-level-requires : (t : ℕ) → operand-lts.Need-level-requires (operand-calls t) (operand-at t) operand.Post
-operand-level-requires t c κs = (omega arith, (room-at _ _ (c .before .before .before .before .before .before .pre .1 .0) (omega (arith, c .before .before .before .before .before .before .pre .1 .2)) (omega arith), omega arith))
+operand-level-requires t c κs = (omega arith, (room-at _ _ (c .before .before .before .before .before .before .pre .1 .0) (omega (arith, c .before .before .before .before .before .before .pre .1 .2)) (omega arith), omega (arith, c .before .before .before .before .before .before .pre .1 .3)))
 
 operand-enum-known-b : (t : ℕ) → operand-lts.Need-enum-known-b (operand-calls t) (operand-at t) operand.Post
 operand-enum-known-b t c = search needs
@@ -481,7 +481,7 @@ operand-returns-2 : (t : ℕ) → operand-lts.Need-returns-2 (operand-calls t) (
 operand-returns-2 t c = operand-bad _ _ _ _ (c .before .before .before .before .before .before .before .before .before .before .before .before .pre .1 .1) (c .before .before .before .before .before .before .before .before .before .field .ensures .0) (miss (c .before .b2 .given .1) (c .before .before .before .before .before .level .ensures))
 
 operand-add-level-3 : (t : ℕ) → operand-lts.Need-add-level-3 (operand-calls t) (operand-at t) operand.Post
-operand-add-level-3 t c = omega (arith, c .before .before .before .before .before .pre .1 .3)
+operand-add-level-3 t c = omega (arith, c .before .before .before .before .before .pre .1 .4)
 
 operand-add-level-4 : (t : ℕ) → operand-lts.Need-add-level-4 (operand-calls t) (operand-at t) operand.Post
 operand-add-level-4 t c = omega (arith, c .before .before .before .before .before .pre .1 .0 .few, c .before .before .before .before .before .pre .1 .2)
@@ -490,7 +490,7 @@ operand-add-level-5 : (t : ℕ) → operand-lts.Need-add-level-5 (operand-calls 
 operand-add-level-5 t c = omega (arith, c .before .before .before .before .before .before .pre .1 .0 .free, c .before .before .before .before .before .before .pre .1 .2)
 
 operand-level-requires-2 : (t : ℕ) → operand-lts.Need-level-requires-2 (operand-calls t) (operand-at t) operand.Post
-operand-level-requires-2 t c κs = (omega arith, (room-at _ _ (c .before .before .before .before .before .before .pre .1 .0) (omega (arith, c .before .before .before .before .before .before .pre .1 .2)) (omega arith), omega arith))
+operand-level-requires-2 t c κs = (omega arith, (room-at _ _ (c .before .before .before .before .before .before .pre .1 .0) (omega (arith, c .before .before .before .before .before .before .pre .1 .2)) (omega arith), omega (arith, c .before .before .before .before .before .before .pre .1 .3)))
 
 operand-enum-known-b-3 : (t : ℕ) → operand-lts.Need-enum-known-b-3 (operand-calls t) (operand-at t) operand.Post
 operand-enum-known-b-3 t c = search needs
@@ -628,7 +628,7 @@ rest-returns : (t : ℕ) → rest-lts.Need-returns (rest-calls t) (rest-at t) re
 rest-returns t c = rest-stop _ _ _ _ _ (c .before .before .before .before .loop .inv .0) (c .before .before .before .loop-test .taken) (c .before .before .field .ensures .0) (c .before .level-of .ensures) (c .if1 .taken)
 
 rest-operand-requires : (t : ℕ) → rest-lts.Need-operand-requires (rest-calls t) (rest-at t) rest.Post rest-Inv-loop rest-μ-loop
-rest-operand-requires t c κs = (omega arith, (room-on (c .before .before .before .before .before .before .before .before .pre .1 .0) (c .before .before .before .before .before .loop .inv .0) (c .before .before .before .before .before .loop .inv .1), c .before .before .before .field .ensures .0, c .before .before .before .field .ensures .1 (sign-there (c .before .before .level-of .ensures) (c .before .if1 .left) (c .before .before .before .before .before .before .before .before .pre .1 .1)), c .before .before .before .before .before .before .before .before .pre .1 .2))
+rest-operand-requires t c κs = (omega arith, (room-on (c .before .before .before .before .before .before .before .before .pre .1 .0) (c .before .before .before .before .before .loop .inv .0) (c .before .before .before .before .before .loop .inv .1), c .before .before .before .field .ensures .0, c .before .before .before .field .ensures .1 (sign-there (c .before .before .level-of .ensures) (c .before .if1 .left) (c .before .before .before .before .before .before .before .before .pre .1 .1)), c .before .before .before .before .before .before .before .before .pre .1 .1, c .before .before .before .before .before .before .before .before .pre .1 .2))
 
 rest-enum-known-right : (t : ℕ) → rest-lts.Need-enum-known-right (rest-calls t) (rest-at t) rest.Post rest-Inv-loop rest-μ-loop
 rest-enum-known-right t c = search needs
