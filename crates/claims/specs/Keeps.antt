@@ -72,10 +72,10 @@ module _ (costs : Costs) (p : Program) (image : List ℕ) where
         (limit : ℕ) → costs .K * used arrays fuel room + costs .K0 ≤ limit →
         Alike stop (source arrays fuel room) (machine arrays limit room) ×
         (machine arrays limit room .steps ≤ costs .K * used arrays fuel room + costs .K0)
-    -- A source run that is out of fuel: the machine is still running, with the same log, after some number of steps that is large where the fuel was.
+    -- A source run that is out of fuel: the machine is still running, with the same log and arrays, after some number of steps that is large where the fuel was.
     pub goes-on : (arrays : List ℕ) (fuel room : ℕ) → Input p arrays → source arrays fuel room .outcome ≡ stopped outOfFuel →
         (limit : ℕ) × (fuel ≤ costs .C * limit + costs .C0) × (limit ≤ costs .K * fuel + costs .K0) ×
-        (machine arrays limit room .machine .status ≡ Limit) × (machine arrays limit room .machine .log ≡ source arrays fuel room .world .log)
+        Alike Limit (source arrays fuel room) (machine arrays limit room)
     -- A machine run that stops with exit or trap t: with some fuel the source finishes, or traps with t, with the same log and arrays.
     pub ends-back : (arrays : List ℕ) (limit room : ℕ) → Input p arrays → (stop : Status) →
         (stop ≡ Exit) ⊎ ((t : ℕ) × (stop ≡ Trap t)) → machine arrays limit room .machine .status ≡ stop →

@@ -76,14 +76,14 @@ module _ (L : Linked) (A : Activation L) where
 
   number-in : (n d p : ℕ) → ExprIn (λ ls w. bind (begin ls w) (λ _. gives n)) 1 d p p (constant n)
   number-in n d p = record {
-    run = λ ls w σ on hp c. sound-begin S ls w _ on (c .log-is) (λ f e.
+    run = λ ls w σ on hp c. sound-begin S ls w _ on (c .log-is) (c .arrays) (λ f e.
         sound-end S (omega arith) (omega arith) (record { on = on; here = hp; cor = core-spent L A f c; is = refl; keep = λ j h. refl; locals = refl; less = omega arith }));
   }
 
   local-in : (x d p : ℕ) → x < A .N → ExprIn (λ ls w. bind (begin ls w) (λ _. fetchLocal x)) 1 d p p (local x)
   unfolding fetchLocal
   local-in x d p h = record {
-    run = λ ls w σ on hp c. sound-begin S ls w _ on (c .log-is) (λ f e.
+    run = λ ls w σ on hp c. sound-begin S ls w _ on (c .log-is) (c .arrays) (λ f e.
         sound-end S (omega arith) (omega arith) (record { on = on; here = hp; cor = core-spent L A f c; is = c .locals x h; keep = λ j h. refl; locals = refl; less = omega arith }));
   }
 
@@ -91,7 +91,7 @@ module _ (L : Linked) (A : Activation L) where
       → ExprIn m z d p r pl → At (S .code) r (reading a pl d) q
       → ExprIn (λ ls w. bind (begin ls w) (λ _ ls w. bind (m ls w) (λ k. read a k))) (suc z) d p q (temporary d)
   element-in m a z d p r q pl hf hd ha I hc = record {
-    run = λ ls w σ on hp c. sound-begin S ls w _ on (c .log-is) (λ f e.
+    run = λ ls w σ on hp c. sound-begin S ls w _ on (c .log-is) (c .arrays) (λ f e.
         sound-bind S {z2 = 0} 128 (omega arith) (omega arith) (omega arith) (I .run ls (spent f w) σ on hp (core-spent L A f c))
         (λ k ls2 w2 τ Q. sound-rates S (read a k ls2 w2) (omega arith) (omega arith)
         (reads L A a k d r q (w .fuel) pl ls ls2 w2 σ τ hd (there L A pl d hf) ha (ready (omega arith) Q) (Q .here) (Q .is) hc)));
@@ -101,7 +101,7 @@ module _ (L : Linked) (A : Activation L) where
       → ExprIn m z d p r pl → At (S .code) r (applying o pl d) q
       → ExprIn (λ ls w. bind (begin ls w) (λ _ ls w. bind (m ls w) (λ x. gives (apply o x)))) (suc z) d p q (result o pl d)
   unary-in m o z d p r q pl hf hd I hc = record {
-    run = λ ls w σ on hp c. sound-begin S ls w _ on (c .log-is) (λ f e.
+    run = λ ls w σ on hp c. sound-begin S ls w _ on (c .log-is) (c .arrays) (λ f e.
         sound-bind S {z2 = 0} 128 (omega arith) (omega arith) (omega arith) (I .run ls (spent f w) σ on hp (core-spent L A f c))
         (λ k ls2 w2 τ Q. sound-rates S (goes (apply o k) ls2 w2) (omega arith) (omega arith)
         (applies L A o k d r q (w .fuel) pl ls ls2 w2 σ τ hd (there L A pl d hf) (ready (omega arith) Q) (Q .here) (Q .is) hc)));
@@ -114,7 +114,7 @@ module _ (L : Linked) (A : Activation L) where
       → Sound S (g x y ls w) (K * w .fuel + 124) (w .fuel) 0 (R σ ls₀ f) ρ)
       → (ls : List ℕ) (w : World) (σ : State) → σ .status ≡ Going → σ .pc ≡ p → Cor L A ls w σ
       → Sound S (bind (begin ls w) (λ _ ls w. bind (ma ls w) (λ x ls w. bind (mb ls w) (λ y. g x y)))) (K * w .fuel - 128) (w .fuel) (suc (za + zb)) (R σ ls (w .fuel)) σ
-  sides-in ma mb g R za zb d p r u pa pb fa fb I J last ls w σ on hp c = sound-begin S ls w _ on (c .log-is) (λ f e.
+  sides-in ma mb g R za zb d p r u pa pb fa fb I J last ls w σ on hp c = sound-begin S ls w _ on (c .log-is) (c .arrays) (λ f e.
       sound-bind S {z2 = zb} 128 (omega arith) (omega arith) (omega arith) (I .run ls (spent f w) σ on hp (core-spent L A f c))
       (λ x ls2 w2 τ Q. sound-bind S {z2 = 0} 124 (omega arith) (omega arith) (omega arith) (J .run ls2 w2 τ (Q .on) (Q .here) (Q .cor))
       (λ y ls3 w3 ρ Z. last x y (w .fuel) ls ls3 w3 σ ρ (record {
@@ -158,7 +158,7 @@ module _ (L : Linked) (A : Activation L) where
   }
 
   always-in : (n d p q k : ℕ) (t : Bool) → At (S .code) p (always t n k) q → CondIn (λ ls w. bind (begin ls w) (λ _. gives n)) 1 t d p q k
-  always-in n d p q k t hc = record { run = λ ls w σ on hp c. sound-begin S ls w _ on (c .log-is) (λ f e. go n t hc ls w σ f e on hp c) }
+  always-in n d p q k t hc = record { run = λ ls w σ on hp c. sound-begin S ls w _ on (c .log-is) (c .arrays) (λ f e. go n t hc ls w σ f e on hp c) }
     where
       stay : (n : ℕ) (t : Bool) (ls : List ℕ) (w : World) (σ : State) (f : ℕ) → w .fuel ≡ suc f → σ .status ≡ Going → σ .pc ≡ aim L A t n q k → Cor L A ls w σ
           → Sound S (goes n ls (spent f w)) (K * w .fuel - 96) f 0 (CondPost L A t σ d q k ls (w .fuel)) σ
@@ -199,7 +199,7 @@ module _ (L : Linked) (A : Activation L) where
   not-in : (m : Act ℕ) (t : Bool) (z d p q k : ℕ) → CondIn m z (B2.not t) d p q k
       → CondIn (λ ls w. bind (begin ls w) (λ _ ls w. bind (m ls w) (λ x. gives (apply T.not x)))) (suc z) t d p q k
   not-in m t z d p q k I = record {
-    run = λ ls w σ on hp c. sound-begin S ls w _ on (c .log-is) (λ f e.
+    run = λ ls w σ on hp c. sound-begin S ls w _ on (c .log-is) (c .arrays) (λ f e.
         sound-bind S {z2 = 0} 96 (omega arith) (omega arith) (omega arith) (I .run ls (spent f w) σ on hp (core-spent L A f c))
         (λ x ls2 w2 τ Q. sound-end S (omega arith) (omega arith) (record {
           on = Q .on;
@@ -231,7 +231,7 @@ module _ (L : Linked) (A : Activation L) where
   and-false : (ma mb : Act ℕ) (za zb d p r q n k : ℕ) → n ≡ q - r + k → r ≤ q → CondIn ma za false d p r n → CondIn mb zb false d r q k
       → CondIn (λ ls w. bind (begin ls w) (λ _ ls w. bind (ma ls w) (λ x. branch x mb (gives 0)))) (suc (za + zb)) false d p q k
   and-false ma mb za zb d p r q n k hn hr I J = record {
-    run = λ ls w σ on hp c. sound-begin S ls w _ on (c .log-is) (λ f e.
+    run = λ ls w σ on hp c. sound-begin S ls w _ on (c .log-is) (c .arrays) (λ f e.
         sound-bind S {z2 = zb} 96 (omega arith) (omega arith) (omega arith) (I .run ls (spent f w) σ on hp (core-spent L A f c))
         (λ x ls2 w2 τ Q. go x ls ls2 w2 (w .fuel) f σ τ (omega arith) Q));
   }
@@ -245,7 +245,7 @@ module _ (L : Linked) (A : Activation L) where
   and-true : (ma mb : Act ℕ) (za zb d p r q n k : ℕ) → n ≡ q - r → r ≤ q → CondIn ma za false d p r n → CondIn mb zb true d r q k
       → CondIn (λ ls w. bind (begin ls w) (λ _ ls w. bind (ma ls w) (λ x. branch x mb (gives 0)))) (suc (za + zb)) true d p q k
   and-true ma mb za zb d p r q n k hn hr I J = record {
-    run = λ ls w σ on hp c. sound-begin S ls w _ on (c .log-is) (λ f e.
+    run = λ ls w σ on hp c. sound-begin S ls w _ on (c .log-is) (c .arrays) (λ f e.
         sound-bind S {z2 = zb} 96 (omega arith) (omega arith) (omega arith) (I .run ls (spent f w) σ on hp (core-spent L A f c))
         (λ x ls2 w2 τ Q. go x ls ls2 w2 (w .fuel) f σ τ (omega arith) Q));
   }
@@ -259,7 +259,7 @@ module _ (L : Linked) (A : Activation L) where
   or-true : (ma mb : Act ℕ) (za zb d p r q n k : ℕ) → n ≡ q - r + k → r ≤ q → CondIn ma za true d p r n → CondIn mb zb true d r q k
       → CondIn (λ ls w. bind (begin ls w) (λ _ ls w. bind (ma ls w) (λ x. branch x (gives 1) mb))) (suc (za + zb)) true d p q k
   or-true ma mb za zb d p r q n k hn hr I J = record {
-    run = λ ls w σ on hp c. sound-begin S ls w _ on (c .log-is) (λ f e.
+    run = λ ls w σ on hp c. sound-begin S ls w _ on (c .log-is) (c .arrays) (λ f e.
         sound-bind S {z2 = zb} 96 (omega arith) (omega arith) (omega arith) (I .run ls (spent f w) σ on hp (core-spent L A f c))
         (λ x ls2 w2 τ Q. go x ls ls2 w2 (w .fuel) f σ τ (omega arith) Q));
   }
@@ -273,7 +273,7 @@ module _ (L : Linked) (A : Activation L) where
   or-false : (ma mb : Act ℕ) (za zb d p r q n k : ℕ) → n ≡ q - r → r ≤ q → CondIn ma za true d p r n → CondIn mb zb false d r q k
       → CondIn (λ ls w. bind (begin ls w) (λ _ ls w. bind (ma ls w) (λ x. branch x (gives 1) mb))) (suc (za + zb)) false d p q k
   or-false ma mb za zb d p r q n k hn hr I J = record {
-    run = λ ls w σ on hp c. sound-begin S ls w _ on (c .log-is) (λ f e.
+    run = λ ls w σ on hp c. sound-begin S ls w _ on (c .log-is) (c .arrays) (λ f e.
         sound-bind S {z2 = zb} 96 (omega arith) (omega arith) (omega arith) (I .run ls (spent f w) σ on hp (core-spent L A f c))
         (λ x ls2 w2 τ Q. go x ls ls2 w2 (w .fuel) f σ τ (omega arith) Q));
   }
@@ -337,7 +337,7 @@ module _ (L : Linked) (A : Activation L) where
       → CondIn ma za false d p s n → ExprIn mb zb d s u pl → At (S .code) u (move pl d) v → getD (S .code) v bad ≡ jump j → At (S .code) (suc v) (settle 0 d) q
       → ExprIn (λ ls w. bind (begin ls w) (λ _ ls w. bind (ma ls w) (λ x. branch x mb (gives 0)))) (suc (za + zb)) d p q (temporary d)
   and-in ma mb za zb d p s u v q n j pl hf hd hn hs hq I J hm hj hc = record {
-    run = λ ls w σ on hp c. sound-begin S ls w _ on (c .log-is) (λ f e.
+    run = λ ls w σ on hp c. sound-begin S ls w _ on (c .log-is) (c .arrays) (λ f e.
         sound-bind S {z2 = zb} 96 (omega arith) (omega arith) (omega arith) (I .run ls (spent f w) σ on hp (core-spent L A f c))
         (λ x ls2 w2 τ Q. go x ls ls2 w2 (w .fuel) f σ τ (omega arith) Q));
   }
@@ -353,7 +353,7 @@ module _ (L : Linked) (A : Activation L) where
       → CondIn ma za true d p s n → ExprIn mb zb d s u pl → At (S .code) u (move pl d) v → getD (S .code) v bad ≡ jump j → At (S .code) (suc v) (settle 1 d) q
       → ExprIn (λ ls w. bind (begin ls w) (λ _ ls w. bind (ma ls w) (λ x. branch x (gives 1) mb))) (suc (za + zb)) d p q (temporary d)
   or-in ma mb za zb d p s u v q n j pl hf hd hn hs hq I J hm hj hc = record {
-    run = λ ls w σ on hp c. sound-begin S ls w _ on (c .log-is) (λ f e.
+    run = λ ls w σ on hp c. sound-begin S ls w _ on (c .log-is) (c .arrays) (λ f e.
         sound-bind S {z2 = zb} 96 (omega arith) (omega arith) (omega arith) (I .run ls (spent f w) σ on hp (core-spent L A f c))
         (λ x ls2 w2 τ Q. go x ls ls2 w2 (w .fuel) f σ τ (omega arith) Q));
   }
@@ -408,7 +408,7 @@ module _ (L : Linked) (A : Activation L) where
       → ArgsIn m z d p r ps → At (S .code) r (calling (L .entry f) ps d) s → At (S .code) s (mv (target d) answer ∷ keep d) q
       → ExprIn (λ ls w. bind (begin ls w) (λ _ ls w. bind (m ls w) (λ vs. callAt (S .room) (L .functions) (A .left) f vs))) (suc z) d p q (temporary d)
   call-in m f z d p r s q ps hd hf har few I hc hm = record {
-    run = λ ls w σ on hp c. sound-begin S ls w _ on (c .log-is) (λ g e.
+    run = λ ls w σ on hp c. sound-begin S ls w _ on (c .log-is) (c .arrays) (λ g e.
         sound-bind S {z2 = 0} 128 (omega arith) (omega arith) (omega arith) (I .run ls (spent g w) σ on hp (core-spent L A g c))
         (λ vs ls2 w2 τ Q. sound-then S {z2 = 0} (callAt (S .room) (L .functions) (A .left) f vs ls2 w2) 2 (omega arith) (omega arith) (omega arith)
         (calls L A f vs ps d r s ls2 w2 τ (omega arith) (Q .on) (Q .here) (Q .cor) (Q .held) hf har few hc)
@@ -424,7 +424,7 @@ module _ (L : Linked) (A : Activation L) where
       → ArgsIn m z d p r ps → At (S .code) r (calling (L .entry f) ps d) s → At (S .code) s (skip (A .near) (sense t Ne) answer x0 k) q
       → CondIn (λ ls w. bind (begin ls w) (λ _ ls w. bind (m ls w) (λ vs. callAt (S .room) (L .functions) (A .left) f vs))) (suc z) t d p q k
   tested-call m f t z d p r s q k ps hd hf har few I hc hm = record {
-    run = λ ls w σ on hp c. sound-begin S ls w _ on (c .log-is) (λ g e.
+    run = λ ls w σ on hp c. sound-begin S ls w _ on (c .log-is) (c .arrays) (λ g e.
         sound-bind S {z2 = 0} 128 (omega arith) (omega arith) (omega arith) (I .run ls (spent g w) σ on hp (core-spent L A g c))
         (λ vs ls2 w2 τ Q. sound-then S {z2 = 0} (callAt (S .room) (L .functions) (A .left) f vs ls2 w2) 2 (omega arith) (omega arith) (omega arith)
         (calls L A f vs ps d r s ls2 w2 τ (omega arith) (Q .on) (Q .here) (Q .cor) (Q .held) hf har few hc)

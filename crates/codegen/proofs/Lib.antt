@@ -17,4 +17,5 @@ pub mod Ranges
 pub mod Reaches
 pub mod Encodes
 pub mod Whole
+pub mod Bounds
 pub mod Theorem

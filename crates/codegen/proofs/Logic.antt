@@ -48,7 +48,7 @@ module _ (S : Setting) where
 
   abbrev pub Halt : Stop → World → State → Type 0
   Halt (trapped t) w σ = (σ .status ≡ Trap t) × (σ .log ≡ w .log) × Arrays (S .elements) (w .arrays) (σ .memory)
-  Halt outOfFuel w σ = (σ .status ≡ Going) × (σ .log ≡ w .log) × (w .fuel ≡ 0)
+  Halt outOfFuel w σ = (σ .status ≡ Going) × (σ .log ≡ w .log) × Arrays (S .elements) (w .arrays) (σ .memory) × (w .fuel ≡ 0)
 
   abbrev pub SoundBy : {A : Type 0} → Result A → (U L z : ℕ) → Post A → State → Type 0
   SoundBy (goes a ls w) U L z Q σ = Reach U L (K * w .fuel) (w .fuel + z) σ (Q a ls w)
@@ -121,14 +121,14 @@ module _ (S : Setting) where
 
   -- something begins: its fuel is owed
   pub sound-begin : {B : Type 0} (ls : List ℕ) (w : World) (k : Unit {0} → Act B) {U z : ℕ} {R : Post B} {σ : State}
-      → σ .status ≡ Going → σ .log ≡ w .log
+      → σ .status ≡ Going → σ .log ≡ w .log → Arrays (S .elements) (w .arrays) (σ .memory)
       → ((f : ℕ) → w .fuel ≡ suc f → Sound (k tt ls (spent f w)) U f z R σ)
       → Sound (bind (begin ls w) k) U (w .fuel) (suc z) R σ
   unfolding run bind begin
-  sound-begin {B = B} ls w k {U} {z} {R} {σ} on same next = go (w .fuel) refl
+  sound-begin {B = B} ls w k {U} {z} {R} {σ} on same there next = go (w .fuel) refl
     where
       go : (n : ℕ) → w .fuel ≡ n → Sound (bind (begin-on n ls w) k) U (w .fuel) (suc z) R σ
-      go zero e = record { get = record { m = 0; up = omega arith; low = omega arith; post = (on, same, e) } }
+      go zero e = record { get = record { m = 0; up = omega arith; low = omega arith; post = (on, same, there, e) } }
       go (suc f) e = sound-rates (k tt ls (spent f w)) (omega arith) (omega arith) (next f e)
 
   -- steps of the machine alone, at most n

@@ -276,7 +276,7 @@ unfolding Fine loads
 fine-loads zero h = tt
 fine-loads (suc n) h = fine-append (loads n) _ (fine-loads n (omega arith)) ((omega arith, omega arith, small (4 * temporaryWord n) (omega arith)), tt)
 
-registers-few : (d : ℕ) → registersOf d ≤ in-registers
+pub registers-few : (d : ℕ) → registersOf d ≤ in-registers
 registers-few d = go (inRegister d) refl
   where
     go : (t : Bool) → inRegister d ≡ t → pick t d 7 ≤ in-registers

@@ -97,7 +97,7 @@ module _ (p : Program) (O : Owed p) (arrays : List ℕ) (room : ℕ) (all : leng
   pub record Agree (r : Run) (σ : State) : Type 0 where
     pub same : σ .status ≡ seen (r .outcome)
     pub log : σ .log ≡ r .world .log
-    pub blocks : (r .outcome ≡ stopped outOfFuel → ⊥) → Arrays (p .elements) (r .world .arrays) (σ .memory)
+    pub blocks : Arrays (p .elements) (r .world .arrays) (σ .memory)
 
   pub record Forward (n : ℕ) : Type 0 where
     pub m : ℕ
@@ -111,11 +111,11 @@ module _ (p : Program) (O : Owed p) (arrays : List ℕ) (room : ℕ) (all : leng
       → (m : ℕ) × (m + K * ended r .world .fuel ≤ K * n + K0) × (n ≤ ended r .world .fuel + C0 + C * m) × Agree (ended r) (after m)
       × (ended r .outcome ≡ stopped outOfFuel → ended r .world .fuel ≡ 0)
   conclude (goes a ls w) n h =
-      (h .get .m, h .get .up, h .get .low, record { same = h .get .post .0; log = h .get .post .1; blocks = λ _. h .get .post .2 }, λ e. cc)
+      (h .get .m, h .get .up, h .get .low, record { same = h .get .post .0; log = h .get .post .1; blocks = h .get .post .2 }, λ e. cc)
   conclude (stops (trapped t) w) n h =
-      (h .get .m, h .get .up, h .get .low, record { same = h .get .post .0; log = h .get .post .1; blocks = λ _. h .get .post .2 }, λ e. cc)
+      (h .get .m, h .get .up, h .get .low, record { same = h .get .post .0; log = h .get .post .1; blocks = h .get .post .2 }, λ e. cc)
   conclude (stops outOfFuel w) n h =
-      (h .get .m, h .get .up, h .get .low, record { same = h .get .post .0; log = h .get .post .1; blocks = λ k. absurd (k refl) }, λ e. h .get .post .2)
+      (h .get .m, h .get .up, h .get .low, record { same = h .get .post .0; log = h .get .post .1; blocks = h .get .post .2 }, λ e. h .get .post .3)
 
   pub forward : (n : ℕ) → Forward n
   forward n = let t = conclude (call n) n (ends n) in record { m = t .0; fast = t .1; slow = t .2; agree = t .3; dry = t .4 }

@@ -153,7 +153,7 @@ module _ (L : Linked) (A : Activation L) where
       → StmtIn (λ ls w. bind (begin ls w) (λ _ ls w. bind (m ls w) (λ v ls w. bind (assign x v ls w) (λ _. gives next)))) (suc z) p q
   unfolding assign bind
   put-in m x z p r q pl hf hx I hc = record {
-    run = λ ls w σ on hp c. sound-begin S ls w _ on (c .log-is) (λ f e.
+    run = λ ls w σ on hp c. sound-begin S ls w _ on (c .log-is) (c .arrays) (λ f e.
         sound-bind S {z2 = 0} 128 (omega arith) (omega arith) (omega arith) (I .run ls (spent f w) σ on hp (core-spent L A f c))
         (λ v ls2 w2 τ Q.
         let t = at-split (S .code) r (fetch pl 0) (sw (source pl 0) sp (4 * localWord x) ∷ []) q hc in
@@ -232,7 +232,7 @@ module _ (L : Linked) (A : Activation L) where
       → ExprIn L A ma za 0 p r pa → ExprIn L A mb zb (above pa 0) r u pb → At (S .code) u (writing a pa pb) q
       → StmtIn (λ ls w. bind (begin ls w) (λ _ ls w. bind (ma ls w) (λ i ls w. bind (mb ls w) (λ v ls w. bind (write a i v ls w) (λ _. gives next))))) (suc (za + zb)) p q
   store-in ma mb a za zb p r u q pa pb fa fb ha I J hc = record {
-    run = λ ls w σ on hp c. sound-begin S ls w _ on (c .log-is) (λ f e.
+    run = λ ls w σ on hp c. sound-begin S ls w _ on (c .log-is) (c .arrays) (λ f e.
         sound-bind S {z2 = zb} 128 (omega arith) (omega arith) (omega arith) (I .run ls (spent f w) σ on hp (core-spent L A f c))
         (λ i ls2 w2 τ Q. sound-bind S {z2 = 0} 100 (omega arith) (omega arith) (omega arith) (J .run ls2 w2 τ (Q .on) (Q .here) (Q .cor))
         (λ v ls3 w3 ρ Z. writes a i v 0 (suc (above pa 0)) u q (w .fuel) pa pb ls3 w3 ρ (there L A pa 0 fa) (there L A pb (above pa 0) fb)
@@ -245,7 +245,7 @@ module _ (L : Linked) (A : Activation L) where
   choose-end : (m : Act ℕ) (n : Act Flow) (y z p r q k : ℕ) → k ≡ q - r → r ≤ q → CondIn L A m y false 0 p r k → StmtIn n z r q
       → StmtIn (λ ls w. bind (begin ls w) (λ _ ls w. bind (m ls w) (λ v. branch v n (gives next)))) (suc (y + (z + 0))) p q
   choose-end m n y z p r q k hk hr I J = record {
-    run = λ ls w σ on hp c. sound-begin S ls w _ on (c .log-is) (λ f e.
+    run = λ ls w σ on hp c. sound-begin S ls w _ on (c .log-is) (c .arrays) (λ f e.
         sound-bind S {z2 = z} 128 (omega arith) (omega arith) (omega arith) (I .run ls (spent f w) σ on hp (core-spent L A f c))
         (λ v ls2 w2 τ Q. go v ls ls2 w2 f (w .fuel) σ τ (omega arith) Q));
   }
@@ -268,7 +268,7 @@ module _ (L : Linked) (A : Activation L) where
       → getD (S .code) u bad ≡ jump j → StmtIn nb zb (suc u) q
       → StmtIn (λ ls w. bind (begin ls w) (λ _ ls w. bind (m ls w) (λ v. branch v na nb))) (suc (y + (za + zb))) p q
   choose-else m na nb y za zb p r u q k j hk hr hj I J hc J2 = record {
-    run = λ ls w σ on hp c. sound-begin S ls w _ on (c .log-is) (λ f e.
+    run = λ ls w σ on hp c. sound-begin S ls w _ on (c .log-is) (c .arrays) (λ f e.
         sound-bind S {z2 = za + zb} 128 (omega arith) (omega arith) (omega arith) (I .run ls (spent f w) σ on hp (core-spent L A f c))
         (λ v ls2 w2 τ Q. go v ls ls2 w2 f (w .fuel) σ τ (omega arith) Q));
   }
@@ -288,7 +288,7 @@ module _ (L : Linked) (A : Activation L) where
       → (g : ℕ) (ls : List ℕ) (w : World) (σ : State) → w .fuel ≤ g → σ .status ≡ Going → σ .pc ≡ p → Cor L A ls w σ
       → Sound S (rounds g m n ls w) (K * w .fuel + 8) (w .fuel) (y + z) (StmtPost q (w .fuel)) σ
   unfolding rounds
-  loop m n y z p r u q k j hs hk hr hj hq I J hc zero ls w σ hg on hp c = sound-stop S (omega arith) (omega arith) (on, c .log-is, (let e : w .fuel ≡ 0 = omega arith in e))
+  loop m n y z p r u q k j hs hk hr hj hq I J hc zero ls w σ hg on hp c = sound-stop S (omega arith) (omega arith) (on, c .log-is, c .arrays, (let e : w .fuel ≡ 0 = omega arith in e))
   loop m n y z p r u q k j hs hk hr hj hq I J hc (suc g) ls w σ hg on hp c =
       sound-bind′ S {z2 = z} 104 (omega arith) (λ _ _ _ _ Q. omega (arith, Q .less)) (omega arith) (omega arith) (I .run ls w σ on hp c)
       (λ v ls2 w2 τ Q. go v ls ls2 w w2 σ τ hg Q
@@ -310,7 +310,7 @@ module _ (L : Linked) (A : Activation L) where
   while-in : (m : Act ℕ) (n : Act Flow) (y z p r u q k j : ℕ) → y + z ≤ C → k ≡ suc (u - r) → r ≤ u → p + j ≡ u → q ≡ suc u → CondIn L A m y false 0 p r k → StmtIn n z r u
       → getD (S .code) u bad ≡ jumpBack j → StmtIn (λ ls w. bind (begin ls w) (λ _ ls w. rounds (w .fuel) m n ls w)) (suc (y + z)) p q
   while-in m n y z p r u q k j hs hk hr hj hq I J hc = record {
-    run = λ ls w σ on hp c. sound-begin S ls w _ on (c .log-is) (λ f e.
+    run = λ ls w σ on hp c. sound-begin S ls w _ on (c .log-is) (c .arrays) (λ f e.
         outer (rounds f m n ls (spent f w)) q f (w .fuel) σ (omega arith) (omega arith) (omega arith)
         (loop m n y z p r u q k j hs hk hr hj hq I J hc f ls (spent f w) σ (omega arith) on hp (core-spent L A f c)));
   }
@@ -354,7 +354,7 @@ module _ (L : Linked) (A : Activation L) where
 
   leave-in : (p q : ℕ) → At (S .code) p (opi Add answer x0 0 ∷ leaving) q → StmtIn (λ ls w. bind (begin ls w) (λ _. gives (returned 0))) 1 p q
   leave-in p q hc = record {
-    run = λ ls w σ on hp c. sound-begin S ls w _ on (c .log-is) (λ f e.
+    run = λ ls w σ on hp c. sound-begin S ls w _ on (c .log-is) (c .arrays) (λ f e.
         let τ : State = puts answer 0 σ in
         let h = leaves 0 (suc p) q (w .fuel) ls (spent f w) τ (hc .1) refl (ap suc hp) (core-spent L A f (core-answer c (only-puts Argument 0 0 (suc (σ .pc)) σ refl))) refl (omega arith) in
         sound-ran S 3 (omega arith) (ran-step S {τ = τ} on hp (hc .0) (ap (λ (n : ℕ). puts answer n σ) zero-is) (h .1))
@@ -388,7 +388,7 @@ module _ (L : Linked) (A : Activation L) where
       → ArgsIn L A m z 0 p r ps → At (S .code) r (calling (L .entry f) ps 0) q
       → AnswerIn (λ ls w. bind (begin ls w) (λ _ ls w. bind (m ls w) (λ vs. callAt (S .room) (L .functions) (A .left) f vs))) (suc z) p q
   answered-call m f z p r q ps hf har few I hc = record {
-    run = λ ls w σ on hp c. sound-begin S ls w _ on (c .log-is) (λ g e.
+    run = λ ls w σ on hp c. sound-begin S ls w _ on (c .log-is) (c .arrays) (λ g e.
         sound-bind S {z2 = 0} 128 (omega arith) (omega arith) (omega arith) (I .run ls (spent g w) σ on hp (core-spent L A g c))
         (λ vs ls2 w2 τ Q. sound-then S {z2 = 0} (callAt (S .room) (L .functions) (A .left) f vs ls2 w2) 0 (omega arith) (omega arith) (omega arith)
         (calls L A f vs ps 0 r q ls2 w2 τ (omega arith) (Q .on) (Q .here) (Q .cor) (Q .held) hf har few hc)
@@ -398,7 +398,7 @@ module _ (L : Linked) (A : Activation L) where
   give-in : (m : Act ℕ) (z p s q : ℕ) → AnswerIn m z p s → At (S .code) s leaving q
       → StmtIn (λ ls w. bind (begin ls w) (λ _ ls w. bind (m ls w) (λ v. gives (returned v)))) (suc z) p q
   give-in m z p s q I hc = record {
-    run = λ ls w σ on hp c. sound-begin S ls w _ on (c .log-is) (λ f e.
+    run = λ ls w σ on hp c. sound-begin S ls w _ on (c .log-is) (c .arrays) (λ f e.
         sound-bind S {z2 = 0} 128 (omega arith) (omega arith) (omega arith) (I .run ls (spent f w) σ on hp (core-spent L A f c))
         (λ v ls2 w2 τ Q.
         let g = leaves v s q (w .fuel) ls2 w2 τ hc (Q .on) (Q .here) (Q .cor) (Q .is) (omega (arith, Q .less)) in
@@ -443,7 +443,7 @@ module _ (L : Linked) (A : Activation L) where
   emit-in : (m : Act ℕ) (z p s q : ℕ) → AnswerIn m z p s → At (S .code) s (ecall ∷ []) q
       → StmtIn (λ ls w. bind (begin ls w) (λ _ ls w. bind (m ls w) (λ v ls w. bind (append (S .room) v ls w) (λ _. gives next)))) (suc z) p q
   emit-in m z p s q I hc = record {
-    run = λ ls w σ on hp c. sound-begin S ls w _ on (c .log-is) (λ f e.
+    run = λ ls w σ on hp c. sound-begin S ls w _ on (c .log-is) (c .arrays) (λ f e.
         sound-bind S {z2 = 0} 128 (omega arith) (omega arith) (omega arith) (I .run ls (spent f w) σ on hp (core-spent L A f c))
         (λ v ls2 w2 τ Q. sound-rates S (bind (append (S .room) v ls2 w2) (λ _. gives next)) (omega arith) (omega arith)
         (emits v s q (w .fuel) ls2 w2 τ hc (Q .on) (Q .here) (Q .cor) (Q .is) (omega (arith, Q .less)))));
@@ -454,7 +454,7 @@ module _ (L : Linked) (A : Activation L) where
       → ArgsIn L A m z 0 p r ps → At (S .code) r (calling (L .entry f) ps 0) q
       → StmtIn (λ ls w. bind (begin ls w) (λ _ ls w. bind (m ls w) (λ vs ls w. bind (callAt (S .room) (L .functions) (A .left) f vs ls w) (λ _. gives next)))) (suc z) p q
   run-in m f z p r q ps hf har few I hc = record {
-    run = λ ls w σ on hp c. sound-begin S ls w _ on (c .log-is) (λ g e.
+    run = λ ls w σ on hp c. sound-begin S ls w _ on (c .log-is) (c .arrays) (λ g e.
         sound-bind S {z2 = 0} 128 (omega arith) (omega arith) (omega arith) (I .run ls (spent g w) σ on hp (core-spent L A g c))
         (λ vs ls2 w2 τ Q. sound-bind S {z2 = 0} 0 (omega arith) (omega arith) (omega arith)
         (calls L A f vs ps 0 r q ls2 w2 τ (omega arith) (Q .on) (Q .here) (Q .cor) (Q .held) hf har few hc)

@@ -92,10 +92,10 @@ module _ (p : Program) (O : Owed p) (fits : length (instructionsOf p) ≤ most-i
 
     -- the arrays of a state that agrees
     block-is : {status : Status} {steps : ℕ} {m : M.Run} (r : Run) (σ : State) → Seen room (instructionsOf p) arrays loads status σ steps m → Agrees r σ
-        → (r .outcome ≡ stopped outOfFuel → ⊥) → arraysOf (4 * p .elements) (m .machine) ≡ r .world .arrays
-    block-is {m = m} r σ s a h =
+        → arraysOf (4 * p .elements) (m .machine) ≡ r .world .arrays
+    block-is {m = m} r σ s a =
         ap (λ (n : ℕ). arraysOf (4 * n) (m .machine)) (sym (I .one-each))
-        ∙ s .blocks (r .world .arrays) (a .blocks h .all ∙ sym (I .one-each)) (record { cell = λ i k. a .blocks h .cell i (let e = a .blocks h .all in omega (arith, e)) })
+        ∙ s .blocks (r .world .arrays) (a .blocks .all ∙ sym (I .one-each)) (record { cell = λ i k. a .blocks .cell i (let e = a .blocks .all in omega (arith, e)) })
 
     -- A machine stopped as the source says.
     alike-stop : (fuel limit : ℕ) (stop : Status) → stopFor (src fuel .outcome) ≡ some stop → forward p O arrays room (I .one-each) fuel .m ≤ limit
@@ -105,7 +105,7 @@ module _ (p : Program) (O : Owed p) (fits : length (instructionsOf p) ≤ most-i
         let g = forward p O arrays room (I .one-each) fuel in
         let q : aft (g .m) .status ≡ stop = g .agree .same ∙ stop-seen (src fuel .outcome) stop e in
         let s = follows-stop room (instructionsOf p) arrays loads (g .m) limit h (no-fault p O arrays room (I .one-each) (g .m)) (subst Stopped (sym q) (stop-stopped (src fuel .outcome) stop e)) in (
-          record { stops = s .stops ∙ q; log = s .log ∙ g .agree .log; arrays = block-is (src fuel) (aft (g .m)) s (g .agree) (stop-ends (src fuel .outcome) stop e) },
+          record { stops = s .stops ∙ q; log = s .log ∙ g .agree .log; arrays = block-is (src fuel) (aft (g .m)) s (g .agree) },
           (let k = count-most room (instructionsOf p) (g .m) (initial arrays) in let c = s .counts in omega (arith, k, c)),
         )
 
@@ -119,8 +119,7 @@ module _ (p : Program) (O : Owed p) (fits : length (instructionsOf p) ≤ most-i
 
     goes-on-at : (fuel : ℕ) → src fuel .outcome ≡ stopped outOfFuel
         → (limit : ℕ) × (fuel ≤ C * limit + C0) × (limit ≤ K * fuel + K0)
-        × (runImage (imageOf (instructionsOf p)) (bytesOfWords arrays) room limit .machine .status ≡ Limit)
-        × (runImage (imageOf (instructionsOf p)) (bytesOfWords arrays) room limit .machine .log ≡ src fuel .world .log)
+        × Alike costs p (imageOf (instructionsOf p)) Limit (src fuel) (runImage (imageOf (instructionsOf p)) (bytesOfWords arrays) room limit)
     goes-on-at fuel e =
         let g = forward p O arrays room (I .one-each) fuel in
         let d = g .dry e in
@@ -128,8 +127,7 @@ module _ (p : Program) (O : Owed p) (fits : length (instructionsOf p) ≤ most-i
           g .m,
           (let a = g .slow in omega (arith, a, d)),
           (let a = g .fast in omega (arith, a)),
-          s .stops ∙ ap shown (g .agree .same ∙ ap seen e),
-          s .log ∙ g .agree .log,
+          record { stops = s .stops ∙ ap shown (g .agree .same ∙ ap seen e); log = s .log ∙ g .agree .log; arrays = block-is (src fuel) (aft (g .m)) s (g .agree) },
         )
 
     -- what the machine shows at a stop, the source shows with fuel enough
@@ -142,7 +140,7 @@ module _ (p : Program) (O : Owed p) (fits : length (instructionsOf p) ≤ most-i
         let o = hb (src n .outcome) (sym (g .agree .same) ∙ ap (λ (σ : State). σ .status) t ∙ e) in
         let s = follows-stop room (instructionsOf p) arrays loads limit limit (omega arith) (no-fault p O arrays room (I .one-each) limit) (subst Stopped (sym e) hs) in
         let a : Agrees (src n) (aft limit) = subst (λ (σ : State). Agrees (src n) σ) t (g .agree) in
-        (n, o, record { stops = s .stops ∙ e; log = s .log ∙ a .log; arrays = block-is (src n) (aft limit) s a (stop-ends (src n .outcome) stop o) })
+        (n, o, record { stops = s .stops ∙ e; log = s .log ∙ a .log; arrays = block-is (src n) (aft limit) s a })
 
     ends-back-at : (limit : ℕ) (stop : Status) → (stop ≡ Exit) ⊎ ((t : ℕ) × (stop ≡ Trap t))
         → runImage (imageOf (instructionsOf p)) (bytesOfWords arrays) room limit .machine .status ≡ stop

@@ -1,7 +1,8 @@
 -- The front page: what an accepted program owes the compiler's theorem and the interpreter's flat form.
 --   accepted : the program of an accepted text is proper for code generation, and fits the flat form
+--   accepted-light : it has no more weight than the text has bytes
 use mathlib.Core.List.{List}
-use Prim.Native.Nat.{ℕ, _<_}
+use Prim.Native.Nat.{ℕ, _≤_, _<_}
 use native.Mathlib.Omega.{arith}
 use lib.ListN.{length}
 use Rattle.language.specs.Tokens.{Token, Placed, Readable}
@@ -10,6 +11,7 @@ use Rattle.language.specs.Core.{Program}
 use Rattle.language.specs.Text.{Accepted}
 use Rattle.flat.specs.Fits.{Fits}
 use Rattle.codegen.specs.Owed.{Owed, most-nodes}
+use Rattle.codegen.proofs.Bounds.{programWeight}
 use Rattle.elaboration.proofs.Tokens.{tokens-few, number-small, token-inside}
 use Rattle.elaboration.proofs.Programs.{program-owed}
 
@@ -17,5 +19,12 @@ use Rattle.elaboration.proofs.Programs.{program-owed}
 inside : {text : List ℕ} {ts : List Placed} → Readable text ts → (i : ℕ) (t : Token) → Has (nth ts) i t → i < most-nodes
 inside {ts = ts} r i t h = omega (arith, token-inside ts i t h, tokens-few (r .reads), r .short)
 
+-- all of them together
+given : (text : List ℕ) (p : Program) (a : Accepted text p) → Owed p × Fits p × (programWeight (p .functions) ≤ length (a .parses .tokens))
+given text p a = program-owed (nth (a .parses .tokens)) (number-small (a .parses .reads)) (inside (a .parses .reads)) (a .parses .derives) (length text) .holds p (a .ruled)
+
 pub accepted : (text : List ℕ) (p : Program) → Accepted text p → Owed p × Fits p
-accepted text p a = program-owed (nth (a .parses .tokens)) (number-small (a .parses .reads)) (inside (a .parses .reads)) (a .parses .derives) (length text) .holds p (a .ruled)
+accepted text p a = let g = given text p a in (g .0, g .1)
+
+pub accepted-light : (text : List ℕ) (p : Program) → Accepted text p → programWeight (p .functions) ≤ length text
+accepted-light text p a = let g = given text p a in omega (arith, g .2, tokens-few (a .parses .reads .reads))

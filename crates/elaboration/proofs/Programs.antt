@@ -2,7 +2,7 @@
 use mathlib.Core.Path.{_≡_, refl, sym, ap, _∙_, subst}
 use mathlib.Core.List.{List}
 use mathlib.Core.Option.{Option}
-use Prim.Native.Nat.{ℕ, _≤_, _<_}
+use Prim.Native.Nat.{ℕ, _+_, _≤_, _<_}
 use native.Mathlib.Omega.{arith}
 use lib.ListN.{length, getD}
 use Rattle.language.specs.Tree.{Place, Item}
@@ -13,6 +13,7 @@ use Rattle.language.specs.Rules.{Declared, nothing-declared, functionsFrom, ela
 use Rattle.flat.specs.Fits as F
 use Rattle.flat.specs.Fits.{functionAt, blockOperands, nestsAll}
 use Rattle.codegen.specs.Owed.{Owed, Runs, size, nothing, most-nodes}
+use Rattle.codegen.proofs.Bounds.{programWeight}
 use Rattle.elaboration.proofs.All.{All, kept, then, also, Each, each-at}
 use Rattle.elaboration.proofs.Declarations.{AllKnown, Main, arities, Few, main-known, all-known, all-few}
 use Rattle.elaboration.proofs.Calls.{parametersOf, parameters-length, parameters-at}
@@ -50,17 +51,18 @@ module _ (p : Program) (each : Each (GoodFunction (p .functions) (p .elements)) 
   }
 
 pub program-owed : (tok : ℕ → Option Placed) → ((i v : ℕ) → Has tok i (Token.number v) → v ≤ largest-number) → ((i : ℕ) (t : Token) → Has tok i t → i < most-nodes) →
-    {i j : ℕ} {is : List Item} → IsItems tok i j is → (end : Place) → All (λ p. Owed p × F.Fits p) (elaborate is end)
+    {i j : ℕ} {is : List Item} → IsItems tok i j is → (end : Place) →
+    All (λ p. Owed p × F.Fits p × (programWeight (p .functions) ≤ j)) (elaborate is end)
 unfolding elaborate
-program-owed tok small inside {is = is} derives end =
+program-owed tok small inside {i} {j} {is} derives end =
     then (also (all-known (arities is) is nothing-declared (record { known = Each.none; few = omega arith; rest = refl })) (all-few is nothing-declared)) λ d h.
     then (main-known (arities is) (h .0 .known) end) λ m k.
     then (also (all-parameters (d .globals) is) (every d (h .0 .known) (h .1))) λ fs g.
-    let each : Each (GoodFunction fs (d .elements)) fs = g .1 fs (g .0) in
-    kept (owed (record { functions = fs; main = m; elements = d .elements }) each (g .0) k (h .0 .few), fits (record { functions = fs; main = m; elements = d .elements }) each)
+    let each : Each (GoodFunction fs (d .elements)) fs = g .1 fs (g .0) .0 in
+    kept (owed (record { functions = fs; main = m; elements = d .elements }) each (g .0) k (h .0 .few), fits (record { functions = fs; main = m; elements = d .elements }) each, omega (arith, g .1 fs (g .0) .1))
   where
     every : (d : Declared) → AllKnown (arities is) (d .elements) (d .globals) → Few is →
-        All (λ fs. (functions : List Function) → parametersOf functions ≡ arities is → Each (GoodFunction functions (d .elements)) fs) (functionsFrom (d .globals) is)
+        All (λ fs. (functions : List Function) → parametersOf functions ≡ arities is → Each (GoodFunction functions (d .elements)) fs × (i + programWeight fs ≤ j)) (functionsFrom (d .globals) is)
     every d known few = record {
       holds = λ fs e functions q.
           functions-good functions (d .elements) (d .globals) (subst (λ a. AllKnown a (d .elements) (d .globals)) (sym q) known) tok small inside derives few .holds fs e;

@@ -32,12 +32,12 @@ module _ (functions : List Function) (elements n : ℕ) (globals : List Global) 
   pub record Step (s : Scope globals) (d i j : ℕ) (c : C.Stmt × Scope globals) : Type 0 where
     pub grows : s .count ≤ c .1 .count
     pub sound : Sound globals (c .1)
-    pub good : c .1 .count ≤ n → GoodStmt functions elements n d i j (c .0)
+    pub good : c .1 .count ≤ n → GoodStmt functions elements n (s .count) (c .1 .count) d i j (c .0)
 
   pub record Steps (s : Scope globals) (d i j : ℕ) (r : C.Block × ℕ) : Type 0 where
     pub grows : s .count ≤ r .1
     pub few : r .1 ≤ most-locals
-    pub good : r .1 ≤ n → GoodBlock functions elements n d i j (r .0)
+    pub good : r .1 ≤ n → GoodBlock functions elements n (s .count) (r .1) d i j (r .0)
 
   -- the value of an expression in a scope, if the function has all its locals
   abbrev Value : Scope globals → ℕ → ℕ → ℕ → C.Expr → Type 0
@@ -50,11 +50,11 @@ module _ (functions : List Function) (elements n : ℕ) (globals : List Global) 
   values s h o x = given (λ l. args-good functions elements n globals all-known (s .visible) (wider l (h .visible)) tok small x o)
 
   -- a statement that declares nothing
-  same : {s : Scope globals} {d i j : ℕ} {c : C.Stmt} → Sound globals s → (s .count ≤ n → GoodStmt functions elements n d i j c) → Step s d i j (c, s)
+  same : {s : Scope globals} {d i j : ℕ} {c : C.Stmt} → Sound globals s → (s .count ≤ n → GoodStmt functions elements n (s .count) (s .count) d i j c) → Step s d i j (c, s)
   same h g = record { grows = omega arith; sound = h; good = g }
 
   -- a statement whose blocks counted more
-  counted : {s : Scope globals} {d i j m : ℕ} {c : C.Stmt} → Sound globals s → s .count ≤ m → m ≤ most-locals → (m ≤ n → GoodStmt functions elements n d i j c) → Step s d i j (c, record { visible = s .visible; count = m })
+  counted : {s : Scope globals} {d i j m : ℕ} {c : C.Stmt} → Sound globals s → s .count ≤ m → m ≤ most-locals → (m ≤ n → GoodStmt functions elements n (s .count) m d i j c) → Step s d i j (c, record { visible = s .visible; count = m })
   counted h l f g = record { grows = l; sound = record { visible = wider l (h .visible); few = f }; good = g }
 
   left : {d i j : ℕ} (at : Place) (r : Option Ty) {s : Scope globals} → Sound globals s → d ≤ most-open → j ≡ i + 2 → All (λ c. Step s d i j (c, s)) (leaves globals r at)
@@ -120,7 +120,7 @@ module _ (functions : List Function) (elements n : ℕ) (globals : List Global) 
     stmt-good (IsStmt.run {p = at} {x = x} w b l xs c f g) s h o =
         then (values s h (omega (arith, l)) xs) λ es u.
         then (function-known (parametersOf functions) all-known at x) λ f c.
-        then (fitted (λ vs. s .count ≤ n → GoodStmt functions elements n _ _ _ (C.run (f .number) vs)) globals at es (f .parameters) (λ e m. good-run functions elements n l (callable functions elements c e) (rw e (c .few)) (u m) g)) λ vs k.
+        then (fitted (λ vs. s .count ≤ n → GoodStmt functions elements n (s .count) (s .count) _ _ _ (C.run (f .number) vs)) globals at es (f .parameters) (λ e m. good-run functions elements n l (callable functions elements c e) (rw e (c .few)) (u m) g)) λ vs k.
         kept (same h k)
 
     pub stmts-good : {d i j : ℕ} {b : T.Block} → IsStmts tok d i j b → (s : Scope globals) → Sound globals s → d ≤ most-open → All (Steps s d i j) (block globals result b s)

@@ -39,7 +39,7 @@ turned int bool = refl
 turned bool int = refl
 turned bool bool = refl
 
-fit-is : (globals : List Global) (p : Place) (us : List Typed) (ts : List Ty) → fit globals p us ts ≡ found (sole (sameTypes (typesOf us) ts) (argsOf us)) p
+pub fit-is : (globals : List Global) (p : Place) (us : List Typed) (ts : List Ty) → fit globals p us ts ≡ found (sole (sameTypes (typesOf us) ts) (argsOf us)) p
 unfolding fit found sole sameTypes typesOf argsOf want need _>>=_
 fit-is globals p [] [] = refl
 fit-is globals p [] (t ∷ ts) = refl
@@ -151,16 +151,16 @@ afters [] s = s
 afters (u ∷ us) s = afters us (after u s)
 
 -- their items
-unfoldable argWords : List Typed → List ℕ
+unfoldable pub argWords : List Typed → List ℕ
 argWords [] = []
 argWords (u ∷ us) = itemsWords (code (u .expr) 0 []) [] ++ argWords us
 
-afters-words : (us : List Typed) (s : Scanned) → afters us s .words ≡ s .words ++ argWords us
+pub afters-words : (us : List Typed) (s : Scanned) → afters us s .words ≡ s .words ++ argWords us
 unfolding afters after argWords
 afters-words [] s = sym (append-nil (s .words))
 afters-words (u ∷ us) s = afters-words us (after u s) ∙ append-assoc (s .words) (itemsWords (code (u .expr) 0 []) []) (argWords us)
 
-afters-types : (us : List Typed) (s : Scanned) (n j : ℕ) (ts : List Ty) → n ≡ length us + j → uppermost n (afters us s .operands) ts ≡ uppermost j (s .operands) (typesOf us ++ ts)
+pub afters-types : (us : List Typed) (s : Scanned) (n j : ℕ) (ts : List Ty) → n ≡ length us + j → uppermost n (afters us s .operands) ts ≡ uppermost j (s .operands) (typesOf us ++ ts)
 unfolding afters after typesOf uppermost
 afters-types [] s n j ts e = ap (λ (i : ℕ). uppermost i (s .operands) ts) {x = n} {y = j} (omega (arith, e))
 afters-types (u ∷ us) s n j ts e = afters-types us (after u s) n (suc j) ts (omega (arith, e))
@@ -175,7 +175,7 @@ unfolding afters after
 afters-get [] s n j e = ap (λ (i : ℕ). getD (s .operands) i no-operand) {x = n} {y = j} (omega (arith, e))
 afters-get (u ∷ us) s n j e = afters-get us (after u s) n (suc j) (omega (arith, e))
 
-afters-length : (us : List Typed) (s : Scanned) → length us ≤ length (afters us s .operands)
+pub afters-length : (us : List Typed) (s : Scanned) → length us ≤ length (afters us s .operands)
 unfolding afters after
 afters-length us s = omega (arith, exact us s)
   where
@@ -189,7 +189,7 @@ unfolding afters after
 afters-start [] s = refl
 afters-start (u ∷ us) s = rw (ne-eqb (suc (length us)) 0 (λ (e : suc (length us) ≡ 0). omega (arith, e))) (ap (λ (o : Operand). o .start) {x = getD (afters us (after u s) .operands) (suc (length us) - 1) no-operand} {y = record { type = u .type; start = length (s .words) }} (ap (λ (i : ℕ). getD (afters us (after u s) .operands) i no-operand) {x = suc (length us) - 1} {y = length us} (omega arith) ∙ afters-get us (after u s) (length us) 0 (omega arith)))
 
-args-words : (us : List Typed) (f n m : ℕ) → m ≡ n + length us → itemsWords (codes (argsOf us) f n 0 []) [] ≡ argWords us ++ (3 ∷ 0 ∷ f ∷ m ∷ [])
+pub args-words : (us : List Typed) (f n m : ℕ) → m ≡ n + length us → itemsWords (codes (argsOf us) f n 0 []) [] ≡ argWords us ++ (3 ∷ 0 ∷ f ∷ m ∷ [])
 unfolding codes argsOf argWords itemsWords kindWords
 args-words [] f n m e = ap (λ (i : ℕ). 3 ∷ 0 ∷ f ∷ i ∷ []) (omega (arith, e))
 args-words (u ∷ us) f n m e =

@@ -9,3 +9,13 @@ pub mod Scanning
 pub mod Elaborating
 pub mod Lengths
 pub mod Stating
+pub mod Moving
+pub mod Heading
+pub mod Storing
+pub mod Running
+pub mod Extents
+pub mod Arms
+pub mod Testing
+pub mod Nesting
+pub mod Blocking
+pub mod Ending

@@ -21,7 +21,7 @@ unfoldable pub typesOf : List Typed → List Ty
 typesOf [] = []
 typesOf (e ∷ es) = e .type ∷ typesOf es
 
-wanted : (P : C.Expr → Type 0) (t : Ty) (at : Place) (e : Typed) → P (e .expr) → All P (want t at e)
+pub wanted : (P : C.Expr → Type 0) (t : Ty) (at : Place) (e : Typed) → P (e .expr) → All P (want t at e)
 unfolding want
 wanted P t at e h = then anything λ _ _. kept h
 
@@ -46,7 +46,7 @@ strict-wanted P mul at a b h = both-wanted P int int (C.strict mul) at a b h
 strict-wanted P div at a b h = both-wanted P int int (C.strict div) at a b h
 strict-wanted P rem at a b h = both-wanted P int int (C.strict rem) at a b h
 
-fitted : (P : C.Args → Type 0) (globals : List Global) (at : Place) (es : List Typed) (ts : List Ty) → P (argsOf es) → All P (fit globals at es ts)
+pub fitted : (P : C.Args → Type 0) (globals : List Global) (at : Place) (es : List Typed) (ts : List Ty) → P (argsOf es) → All P (fit globals at es ts)
 unfolding fit argsOf
 fitted P globals at [] [] h = kept h
 fitted P globals at [] (t ∷ ts) h = broken

@@ -51,11 +51,11 @@ pub stopped : {A B : Type 0} {m : Ruled A} {at : Place} (f : A → Ruled B) → 
 unfolding _>>=_
 stopped f e = ap (λ n. n >>= f) e
 
-want-fine : (t : Ty) (at : Place) (v : Typed) {u : Ty} {b : Bool} → v .type ≡ u → b ≡ sameTy t u → b ≡ true → want t at v ≡ keeps (v .expr)
+pub want-fine : (t : Ty) (at : Place) (v : Typed) {u : Ty} {b : Bool} → v .type ≡ u → b ≡ sameTy t u → b ≡ true → want t at v ≡ keeps (v .expr)
 unfolding want need _>>=_
 want-fine t at v e q f = rw (e, ← q, f) refl
 
-want-wrong : (t : Ty) (at : Place) (v : Typed) {u : Ty} {b : Bool} → v .type ≡ u → b ≡ sameTy t u → b ≡ false → want t at v ≡ breaks at
+pub want-wrong : (t : Ty) (at : Place) (v : Typed) {u : Ty} {b : Bool} → v .type ≡ u → b ≡ sameTy t u → b ≡ false → want t at v ≡ breaks at
 unfolding want need _>>=_
 want-wrong t at v e q f = rw (e, ← q, f) refl
 
@@ -85,7 +85,7 @@ module _ {text : List ℕ} {gs : List Global} {ls : List Local} {n : ℕ} {ws : 
           sets core q (k ∷ a ∷ 0 ∷ n ∷ 0 ∷ 0 ∷ 0 ∷ rest ∷ itemsWords (code (t .value .expr) 0 []) []) ≡ sets core q (k ∷ a ∷ 0 ∷ m ∷ 0 ∷ 0 ∷ 0 ∷ 4 * m ∷ itemsWords (code (t .value .expr) 0 []) [])
       same m e f = rw (e, f) refl
 
-int-type : typeOf 1 ≡ int
+pub int-type : typeOf 1 ≡ int
 unfolding typeOf
 int-type = refl
 
@@ -217,7 +217,7 @@ some-result res h = rw (ne-eqb res 0 h) refl
 
 -- Declaring a local
 
-same-locals : (text ws us : List ℕ) (l : ℕ) → ((i : ℕ) → i < 4 * l → getD us i 0 ≡ getD ws i 0) → localsIn text us l ≡ localsIn text ws l
+pub same-locals : (text ws us : List ℕ) (l : ℕ) → ((i : ℕ) → i < 4 * l → getD us i 0 ≡ getD ws i 0) → localsIn text us l ≡ localsIn text ws l
 unfolding localsIn localAt
 same-locals text ws us zero h = refl
 same-locals text ws us (suc l) h =
@@ -237,7 +237,10 @@ entered-at text locals l at size ty slot h =
     ) refl
 
 pub entered : {locals locals′ : List ℕ} (l at size ty slot : ℕ) → 4 * l + 4 ≤ length locals → locals′ ≡ sets locals (4 * l) (at ∷ size ∷ ty ∷ slot ∷ []) → Enters locals l at size ty slot locals′
-entered {locals} l at size ty slot h e = record { is = λ text. ap (λ (w : List ℕ). localsIn text w (l + 1)) e ∙ entered-at text locals l at size ty slot h }
+entered {locals} l at size ty slot h e = record {
+  is = λ text. ap (λ (w : List ℕ). localsIn text w (l + 1)) e ∙ entered-at text locals l at size ty slot h;
+  before = λ i k. ap (λ (w : List ℕ). getD w i 0) e ∙ get-before locals (4 * l) i (at ∷ size ∷ ty ∷ slot ∷ []) k;
+}
 
 module _ {text tree ws locals : List ℕ} {g l i : ℕ} (at size : ℕ) (f : FindsGlobal text tree ws g (part text at size) i) where
   pub named-global : (i ≡ 0 → ⊥) → Freshly text (globalsIn text tree ws g) locals l at size false

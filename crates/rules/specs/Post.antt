@@ -3,7 +3,7 @@ use mathlib.Core.Path.{_≡_}
 use mathlib.Core.Bool.{Bool}
 use mathlib.Core.List.{List, [], _∷_, _++_}
 use mathlib.Core.Option.{Option, none, some}
-use Prim.Native.Nat.{ℕ, zero, suc, _+_, _*_, _≤_}
+use Prim.Native.Nat.{ℕ, zero, suc, _+_, _*_, _≤_, _<_}
 use lib.ListN.{length, getD, drop}
 use lib.Seq.{sets}
 use Rattle.word.specs.Choice.{pick}
@@ -150,6 +150,7 @@ pub record States (text : List ℕ) (globals : List Global) (locals : List ℕ) 
 -- a local more is visible
 pub record Enters (locals : List ℕ) (l at size ty slot : ℕ) (locals′ : List ℕ) : Type 0 where
   pub is : (text : List ℕ) → localsIn text locals′ (l + 1) ≡ record { name = part text at size; type = typeOf ty; slot = slot } ∷ localsIn text locals l
+  pub before : (i : ℕ) → i < 4 * l → word locals′ i ≡ word locals i
 
 -- whether a name is new
 pub record Freshly (text : List ℕ) (globals : List Global) (locals : List ℕ) (l at size : ℕ) (r : Bool) : Type 0 where

@@ -5,6 +5,7 @@ ghost use Rattle.language.specs.Tree.{Ty};
 ghost use Rattle.rules.specs.Tables.{word as wordOf, typeOf, resultOf, typesFrom, globalsIn};
 ghost use Rattle.rules.specs.Scan.{firstStart, callNode, calledNode};
 ghost use Rattle.rules.specs.Post.{made, most-entries, most-places, operandsIn};
+ghost use Rattle.rules.specs.Statements.{droppedNode};
 use crate::names::GLOBAL_VALUE;
 use crate::names::GLOBAL_WORDS;
 use crate::names::find_global;
@@ -13,6 +14,7 @@ use crate::nodes::ARRAY;
 use crate::nodes::Made;
 use crate::nodes::broken;
 use crate::operands::top;
+use crate::types::INT;
 use crate::types::same_types;
 use flat::item;
 
@@ -109,4 +111,35 @@ pub fn call(
     }
     let number = word(globals, at + GLOBAL_VALUE);
     arguments(tree, types, starts, h, header, number, n, here, 1, ty)
+}
+
+// A call whose result, if the function has one, is dropped.
+pub fn dropped(
+    text: &[u8],
+    tree: &[u32],
+    globals: &[u32],
+    count: usize,
+    p: u32,
+    a: u32,
+    n: u32,
+    types: &[u32],
+    starts: &[u32],
+    h: usize,
+) -> Made
+    requires { ⌜ (count ≤ most-entries) × (h ≤ most-places) ⌝ }
+    ensures { λ r. ⌜ made (r .ok) (r .takes) (r .ty) (r .start) (r .begins) (r .kind) (r .a) (r .b) ≡
+        droppedNode (now (text .entry)) (globalsIn (now (text .entry)) (now (tree .entry)) (now (globals .entry)) count) p a n (operandsIn (now (types .entry)) (now (starts .entry)) h) ⌝ }
+{
+    let i = find_global(text, tree, globals, count, p, a);
+    if i == 0 {
+        return broken();
+    }
+    let at = GLOBAL_WORDS * (i - 1);
+    let header = word(globals, at) as usize;
+    let kind = word(tree, header);
+    if kind == ARRAY {
+        return broken();
+    }
+    let number = word(globals, at + GLOBAL_VALUE);
+    arguments(tree, types, starts, h, header, number, n, 0, 0, INT)
 }

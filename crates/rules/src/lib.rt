@@ -6,7 +6,13 @@ pub mod nodes; // what an item of the tree becomes
 pub mod calls; // calls and their arguments
 pub mod scan; // an expression, item by item
 pub mod expression; // an expression, and its type
+pub mod head; // headers of statements, in the tree and in the core
 pub mod single; // statements with one expression and no block
+pub mod store; // a store to an element
+pub mod run; // a call as a statement
+pub mod simple; // statements with no block
+pub mod blocks; // blocks, and statements that have some
+pub mod endings; // whether a block ends in return
 
 // What a part of the tree gives: a number, or the place of a broken rule.
 pub enum Out {
@@ -23,5 +29,11 @@ pub enum Given {
 // What a statement gives: how many locals are visible after it, and how many parameters and lets there were; or the place of a broken rule.
 pub enum Step {
     Next(usize, u32),
+    Broken(u32),
+}
+
+// What a block gives: how many parameters and lets there were; or the place of a broken rule.
+pub enum Counted {
+    Count(u32),
     Broken(u32),
 }

@@ -1,15 +1,17 @@
 // Statements with one expression and no block: the expression first, then the statement's own rules, then its header.
 ghost use mathlib.Core.Path.{_≡_};
-ghost use mathlib.Core.List.{[], _∷_};
-ghost use Prim.Native.Nat.{_+_, _*_, _≤_};
+ghost use mathlib.Core.List.{List};
+ghost use Prim.Native.Nat.{ℕ, _+_, _*_, _≤_};
 ghost use lib.ListN.{length, drop};
-ghost use lib.Seq.{sets};
 ghost use Rattle.language.specs.Tree.{emit as emitOf, give as giveOf, assign as assignOf, declare as declareOf};
 ghost use Rattle.rules.specs.Tables.{part, typeOf, resultOf, localsIn, globalsIn};
 ghost use Rattle.rules.specs.Post.{most-entries, HeaderRoom, States, Leaves, Enters, Freshly};
+ghost use Rattle.rules.specs.Statements.{Moves};
 use crate::Given;
 use crate::Step;
 use crate::expression::expression;
+use crate::head::Head;
+use crate::head::header;
 use crate::names::LOCAL_SLOT;
 use crate::names::LOCAL_TYPE;
 use crate::names::LOCAL_WORDS;
@@ -22,21 +24,6 @@ use flat::statement;
 
 // "64 parameters and lets together per function"
 const MOST_LOCALS: u32 = 64;
-
-// The header of a statement with one expression: its kind, a word that the kind has a use for, how many items, how many words follow.
-pub fn header(core: &mut [u32], q: usize, k: u32, a: u32, n: u32, rest: u32)
-    requires { ⌜ q + 8 ≤ length (now core) ⌝ }
-    ensures { λ _. ⌜ now (core .exit) ≡ sets (now (core .entry)) q (k ∷ a ∷ 0 ∷ n ∷ 0 ∷ 0 ∷ 0 ∷ rest ∷ []) ⌝ }
-{
-    core[q] = k;
-    core[q + 1] = a;
-    core[q + 2] = 0;
-    core[q + 3] = n;
-    core[q + 4] = 0;
-    core[q + 5] = 0;
-    core[q + 6] = 0;
-    core[q + 7] = rest;
-}
 
 // "`emit` takes an int."
 pub fn emit(
@@ -51,15 +38,14 @@ pub fn emit(
     core: &mut [u32],
     p: usize,
     q: usize,
-    n: u32,
-    rest: u32,
-    at: u32,
+    head: Head,
     count: u32,
     result: u32,
 ) -> Step
     requires { ⌜ HeaderRoom (now tree) g l (now types) (now starts) (now core) p q ⌝ }
     ensures { λ r. ⌜ States (now (text .entry)) (globalsIn (now (text .entry)) (now (tree .entry)) (now (globals .entry)) g) (now (locals .entry)) l count (resultOf result)
-        (λ e. emitOf at e) n rest (drop (p + 8) (now (tree .entry))) q (now (core .entry)) r (now (locals .exit)) (now (core .exit)) ⌝ }
+        (λ e. emitOf (head .at) e) (head .first) (head .rest) (drop (p + 8) (now (tree .entry))) q (now (core .entry)) r (now (locals .exit)) (now (core .exit)) ⌝ }
+    ensures { λ r. ⌜ Moves l count (now (locals .entry)) r (now (locals .exit)) ⌝ }
 {
     let r = expression(
         text,
@@ -73,14 +59,25 @@ pub fn emit(
         core,
         p + 8,
         q + 8,
-        n,
+        head.first,
     );
     match r {
         Given::Type(ty) => {
             if !same_type(INT, ty) {
-                return Step::Broken(at);
+                return Step::Broken(head.at);
             }
-            header(core, q, statement::EMIT, 0, n, rest);
+            header(
+                core,
+                q,
+                statement::EMIT,
+                0,
+                0,
+                head.first,
+                0,
+                0,
+                0,
+                head.rest,
+            );
             Step::Next(l, count)
         }
         Given::Broken(b) => Step::Broken(b),
@@ -100,15 +97,14 @@ pub fn give(
     core: &mut [u32],
     p: usize,
     q: usize,
-    n: u32,
-    rest: u32,
-    at: u32,
+    head: Head,
     count: u32,
     result: u32,
 ) -> Step
     requires { ⌜ HeaderRoom (now tree) g l (now types) (now starts) (now core) p q ⌝ }
     ensures { λ r. ⌜ States (now (text .entry)) (globalsIn (now (text .entry)) (now (tree .entry)) (now (globals .entry)) g) (now (locals .entry)) l count (resultOf result)
-        (λ e. giveOf at e) n rest (drop (p + 8) (now (tree .entry))) q (now (core .entry)) r (now (locals .exit)) (now (core .exit)) ⌝ }
+        (λ e. giveOf (head .at) e) (head .first) (head .rest) (drop (p + 8) (now (tree .entry))) q (now (core .entry)) r (now (locals .exit)) (now (core .exit)) ⌝ }
+    ensures { λ r. ⌜ Moves l count (now (locals .entry)) r (now (locals .exit)) ⌝ }
 {
     let r = expression(
         text,
@@ -122,17 +118,28 @@ pub fn give(
         core,
         p + 8,
         q + 8,
-        n,
+        head.first,
     );
     match r {
         Given::Type(ty) => {
             if result == 0 {
-                return Step::Broken(at);
+                return Step::Broken(head.at);
             }
             if !same_type(result, ty) {
-                return Step::Broken(at);
+                return Step::Broken(head.at);
             }
-            header(core, q, statement::GIVE, 0, n, rest);
+            header(
+                core,
+                q,
+                statement::GIVE,
+                0,
+                0,
+                head.first,
+                0,
+                0,
+                0,
+                head.rest,
+            );
             Step::Next(l, count)
         }
         Given::Broken(b) => Step::Broken(b),
@@ -152,16 +159,14 @@ pub fn assign(
     core: &mut [u32],
     p: usize,
     q: usize,
-    n: u32,
-    rest: u32,
-    at: u32,
-    size: u32,
+    head: Head,
     count: u32,
     result: u32,
 ) -> Step
     requires { ⌜ HeaderRoom (now tree) g l (now types) (now starts) (now core) p q ⌝ }
     ensures { λ r. ⌜ States (now (text .entry)) (globalsIn (now (text .entry)) (now (tree .entry)) (now (globals .entry)) g) (now (locals .entry)) l count (resultOf result)
-        (λ e. assignOf at (part (now (text .entry)) at size) e) n rest (drop (p + 8) (now (tree .entry))) q (now (core .entry)) r (now (locals .exit)) (now (core .exit)) ⌝ }
+        (λ e. assignOf (head .at) (part (now (text .entry)) (head .at) (head .size)) e) (head .first) (head .rest) (drop (p + 8) (now (tree .entry))) q (now (core .entry)) r (now (locals .exit)) (now (core .exit)) ⌝ }
+    ensures { λ r. ⌜ Moves l count (now (locals .entry)) r (now (locals .exit)) ⌝ }
 {
     let r = expression(
         text,
@@ -175,20 +180,31 @@ pub fn assign(
         core,
         p + 8,
         q + 8,
-        n,
+        head.first,
     );
     match r {
         Given::Type(ty) => {
-            let i = find_local(text, locals, l, at, size);
+            let i = find_local(text, locals, l, head.at, head.size);
             if i == 0 {
-                return Step::Broken(at);
+                return Step::Broken(head.at);
             }
             let wanted = word(locals, LOCAL_WORDS * (i - 1) + LOCAL_TYPE);
             if !same_type(wanted, ty) {
-                return Step::Broken(at);
+                return Step::Broken(head.at);
             }
             let slot = word(locals, LOCAL_WORDS * (i - 1) + LOCAL_SLOT);
-            header(core, q, statement::PUT, slot, n, rest);
+            header(
+                core,
+                q,
+                statement::PUT,
+                slot,
+                0,
+                head.first,
+                0,
+                0,
+                0,
+                head.rest,
+            );
             Step::Next(l, count)
         }
         Given::Broken(b) => Step::Broken(b),
@@ -199,11 +215,12 @@ pub fn assign(
 pub fn leave(core: &mut [u32], q: usize, at: u32, l: usize, count: u32, result: u32) -> Step
     requires { ⌜ q + 8 ≤ length (now core) ⌝ }
     ensures { λ r. ⌜ Leaves l count (resultOf result) at q (now (core .entry)) r (now (core .exit)) ⌝ }
+    ensures { λ r. ⌜ ((locals : List ℕ) → Moves l count locals r locals) ⌝ }
 {
     if result != 0 {
         return Step::Broken(at);
     }
-    header(core, q, statement::LEAVE, 0, 0, 0);
+    header(core, q, statement::LEAVE, 0, 0, 0, 0, 0, 0, 0);
     Step::Next(l, count)
 }
 
@@ -254,17 +271,15 @@ pub fn declare(
     core: &mut [u32],
     p: usize,
     q: usize,
-    n: u32,
-    rest: u32,
-    at: u32,
-    size: u32,
+    head: Head,
     wanted: u32,
     count: u32,
     result: u32,
 ) -> Step
     requires { ⌜ HeaderRoom (now tree) g l (now types) (now starts) (now core) p q × (4 * l + 4 ≤ length (now locals)) ⌝ }
     ensures { λ r. ⌜ States (now (text .entry)) (globalsIn (now (text .entry)) (now (tree .entry)) (now (globals .entry)) g) (now (locals .entry)) l count (resultOf result)
-        (λ e. declareOf at (part (now (text .entry)) at size) (typeOf wanted) e) n rest (drop (p + 8) (now (tree .entry))) q (now (core .entry)) r (now (locals .exit)) (now (core .exit)) ⌝ }
+        (λ e. declareOf (head .at) (part (now (text .entry)) (head .at) (head .size)) (typeOf wanted) e) (head .first) (head .rest) (drop (p + 8) (now (tree .entry))) q (now (core .entry)) r (now (locals .exit)) (now (core .exit)) ⌝ }
+    ensures { λ r. ⌜ Moves l count (now (locals .entry)) r (now (locals .exit)) ⌝ }
 {
     let r = expression(
         text,
@@ -278,21 +293,32 @@ pub fn declare(
         core,
         p + 8,
         q + 8,
-        n,
+        head.first,
     );
     match r {
         Given::Type(ty) => {
             if !same_type(wanted, ty) {
-                return Step::Broken(at);
+                return Step::Broken(head.at);
             }
-            if !fresh(text, tree, globals, g, locals, l, at, size) {
-                return Step::Broken(at);
+            if !fresh(text, tree, globals, g, locals, l, head.at, head.size) {
+                return Step::Broken(head.at);
             }
             if MOST_LOCALS <= count {
-                return Step::Broken(at);
+                return Step::Broken(head.at);
             }
-            enter(locals, l, at, size, wanted, count);
-            header(core, q, statement::PUT, count, n, rest);
+            enter(locals, l, head.at, head.size, wanted, count);
+            header(
+                core,
+                q,
+                statement::PUT,
+                count,
+                0,
+                head.first,
+                0,
+                0,
+                0,
+                head.rest,
+            );
             Step::Next(l + 1, count + 1)
         }
         Given::Broken(b) => Step::Broken(b),

@@ -15,7 +15,7 @@ use Rattle.emulator.specs.declared.run.Ended.{Ended}
 use Rattle.toolchain.specs.Emulation.{Buffers, Holds, stood}
 
 -- the first k of a list, of a number k that is not computed with
-front : (k : ℕ) (l m rest : List ℕ) → length m ≡ k → l ≡ m ++ rest → take k l ≡ m
+pub front : (k : ℕ) (l m rest : List ℕ) → length m ≡ k → l ≡ m ++ rest → take k l ≡ m
 front k l m rest h e = ap (take k) e ∙ take-at m rest k h
 
 -- a run whose machine has the sizes of document 03 stands in the buffers that hold it

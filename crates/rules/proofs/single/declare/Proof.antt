@@ -2,6 +2,7 @@
 use native.Mathlib.Omega.{arith}
 use Rattle.rules.proofs.Looking.{denied, granted}
 use Rattle.rules.proofs.Stating as L
+use Rattle.rules.proofs.Moving as M
 use Rattle.rules.proofs.single.declare.Statement.{statement}
 use Rattle.rules.proofs.single.declare.Tie as tie
 use borrow.Author.Needs.{needs}
@@ -34,7 +35,7 @@ same-length-4 : tie.Need-same-length-4
 same-length-4 c = search needs
 
 returns : tie.Need-returns
-returns c = L.declare-wrong _ _ _ _ _ _ _ _ _ _ _ (c .before .before .before .before .before .before .before .before .before .before .before .expression .ensures) (c .before .before .before .r .given .1) (c .before .same-type .ensures) (denied _ (c .if1 .taken))
+returns c = (L.declare-wrong _ _ _ _ _ _ _ _ _ _ _ (c .before .before .before .before .before .before .before .before .before .before .before .expression .ensures) (c .before .before .before .r .given .1) (c .before .same-type .ensures) (denied _ (c .if1 .taken)), M.stuck _ _ _ _)
 
 fresh-requires : tie.Need-fresh-requires
 fresh-requires c κs = (c .before .before .before .before .before .before .before .before .before .before .before .before .before .before .before .before .before .before .before .before .before .before .before .before .pre .0 .after .globals, c .before .before .before .before .before .before .before .before .before .before .before .before .before .before .before .before .before .before .before .before .before .before .before .before .pre .0 .after .locals)
@@ -52,7 +53,7 @@ same-length-8 : tie.Need-same-length-8
 same-length-8 c = search needs
 
 returns-2 : tie.Need-returns-2
-returns-2 c = L.declare-again _ _ _ _ _ _ _ _ _ _ _ (c .before .before .before .before .before .before .before .before .before .before .before .before .before .before .expression .ensures) (c .before .before .before .before .before .before .r .given .1) (c .before .before .before .before .same-type .ensures) (granted _ (c .before .before .before .if1 .left)) (c .before .fresh .ensures) (denied _ (c .if2 .taken))
+returns-2 c = (L.declare-again _ _ _ _ _ _ _ _ _ _ _ (c .before .before .before .before .before .before .before .before .before .before .before .before .before .before .expression .ensures) (c .before .before .before .before .before .before .r .given .1) (c .before .before .before .before .same-type .ensures) (granted _ (c .before .before .before .if1 .left)) (c .before .fresh .ensures) (denied _ (c .if2 .taken)), M.stuck _ _ _ _)
 
 same-length-9 : tie.Need-same-length-9
 same-length-9 c = search needs
@@ -67,7 +68,7 @@ same-length-12 : tie.Need-same-length-12
 same-length-12 c = search needs
 
 returns-3 : tie.Need-returns-3
-returns-3 c = L.declare-many _ _ _ _ _ _ _ _ _ _ _ (c .before .before .before .before .before .before .before .before .before .before .before .before .before .before .before .expression .ensures) (c .before .before .before .before .before .before .before .r .given .1) (c .before .before .before .before .before .same-type .ensures) (granted _ (c .before .before .before .before .if1 .left)) (c .before .before .fresh .ensures) (granted _ (c .before .if2 .left)) (c .if3 .taken)
+returns-3 c = (L.declare-many _ _ _ _ _ _ _ _ _ _ _ (c .before .before .before .before .before .before .before .before .before .before .before .before .before .before .before .expression .ensures) (c .before .before .before .before .before .before .before .r .given .1) (c .before .before .before .before .before .same-type .ensures) (granted _ (c .before .before .before .before .if1 .left)) (c .before .before .fresh .ensures) (granted _ (c .before .if2 .left)) (c .if3 .taken), M.stuck _ _ _ _)
 
 enter-requires : tie.Need-enter-requires
 enter-requires c κs = (c .before .before .before .before .before .before .before .before .before .before .before .before .before .before .before .before .before .before .before .before .before .before .before .before .before .before .before .before .pre .0 .after .locals, c .before .before .before .before .before .before .before .before .before .before .before .before .before .before .before .before .before .before .before .before .before .before .before .before .before .before .before .before .pre .1)
@@ -75,11 +76,11 @@ enter-requires c κs = (c .before .before .before .before .before .before .befor
 header-requires : tie.Need-header-requires
 header-requires c κs = omega (arith, c .before .before .before .before .before .before .before .before .before .before .before .before .before .before .before .before .before .before .before .before .before .before .before .before .before .before .before .before .before .before .before .before .pre .0 .header, c .before .before .before .before .before .before .before .before .before .before .before .before .before .before .before .before .before .before .before .before .expression .kept .1 .1 .1 .1 .1 .1 .1 .1 .0)
 
-add-t42 : tie.Need-add-t42
-add-t42 c = omega (arith, c .before .before .before .before .before .before .before .before .before .before .before .before .before .before .before .before .before .before .before .before .before .before .before .before .before .before .before .before .before .before .before .before .before .before .before .pre .0 .after .locals)
+add-t39 : tie.Need-add-t39
+add-t39 c = omega (arith, c .before .before .before .before .before .before .before .before .before .before .before .before .before .before .before .before .before .before .before .before .before .before .before .before .before .before .before .before .before .before .before .before .before .before .before .pre .0 .after .locals)
 
-add-t43 : tie.Need-add-t43
-add-t43 c = search needs
+add-t40 : tie.Need-add-t40
+add-t40 c = search needs
 
 enum-known-r-2 : tie.Need-enum-known-r-2
 enum-known-r-2 c = search needs
@@ -97,7 +98,7 @@ same-length-16 : tie.Need-same-length-16
 same-length-16 c = search needs
 
 returns-4 : tie.Need-returns-4
-returns-4 c = L.declare-next _ _ _ _ _ _ _ _ _ _ _ (c .before .before .before .before .before .before .before .before .before .before .before .before .before .before .before .before .before .before .before .before .before .before .before .expression .ensures) (c .before .before .before .before .before .before .before .before .before .before .before .before .before .before .before .r .given .1) (c .before .before .before .before .before .before .before .before .before .before .before .before .before .same-type .ensures) (granted _ (c .before .before .before .before .before .before .before .before .before .before .before .before .if1 .left)) (c .before .before .before .before .before .before .before .before .before .before .fresh .ensures) (granted _ (c .before .before .before .before .before .before .before .before .before .if2 .left)) (c .before .before .before .before .before .before .before .before .if3 .left) (c .before .before .before .before .before .before .enter .ensures) (c .before .before .header .ensures)
+returns-4 c = (L.declare-next _ _ _ _ _ _ _ _ _ _ _ (c .before .before .before .before .before .before .before .before .before .before .before .before .before .before .before .before .before .before .before .before .before .before .before .expression .ensures) (c .before .before .before .before .before .before .before .before .before .before .before .before .before .before .before .r .given .1) (c .before .before .before .before .before .before .before .before .before .before .before .before .before .same-type .ensures) (granted _ (c .before .before .before .before .before .before .before .before .before .before .before .before .if1 .left)) (c .before .before .before .before .before .before .before .before .before .before .fresh .ensures) (granted _ (c .before .before .before .before .before .before .before .before .before .if2 .left)) (c .before .before .before .before .before .before .before .before .if3 .left) (c .before .before .before .before .before .before .enter .ensures) (c .before .before .header .ensures), M.one-more _ _ (c .before .before .before .before .before .before .before .before .if3 .left) (c .before .before .before .before .before .before .enter .ensures))
 
 same-length-17 : tie.Need-same-length-17
 same-length-17 c = search needs
@@ -112,7 +113,7 @@ same-length-20 : tie.Need-same-length-20
 same-length-20 c = search needs
 
 returns-5 : tie.Need-returns-5
-returns-5 c = L.declare-fault _ _ _ _ _ _ _ _ _ _ _ (c .before .before .before .before .before .before .before .before .before .expression .ensures) (c .before .r2 .given .1)
+returns-5 c = (L.declare-fault _ _ _ _ _ _ _ _ _ _ _ (c .before .before .before .before .before .before .before .before .before .expression .ensures) (c .before .r2 .given .1), M.stuck _ _ _ _)
 
 pub declare-spec : {M : Type 1} → statement M
-declare-spec = tie.close (tie.spec add-expression add-expression-2 expression-requires enum-known-r same-type-requires same-length same-length-2 same-length-3 same-length-4 returns fresh-requires same-length-5 same-length-6 same-length-7 same-length-8 returns-2 same-length-9 same-length-10 same-length-11 same-length-12 returns-3 enter-requires header-requires add-t42 add-t43 enum-known-r-2 same-length-13 same-length-14 same-length-15 same-length-16 returns-4 same-length-17 same-length-18 same-length-19 same-length-20 returns-5)
+declare-spec = tie.close (tie.spec add-expression add-expression-2 expression-requires enum-known-r same-type-requires same-length same-length-2 same-length-3 same-length-4 returns fresh-requires same-length-5 same-length-6 same-length-7 same-length-8 returns-2 same-length-9 same-length-10 same-length-11 same-length-12 returns-3 enter-requires header-requires add-t39 add-t40 enum-known-r-2 same-length-13 same-length-14 same-length-15 same-length-16 returns-4 same-length-17 same-length-18 same-length-19 same-length-20 returns-5)

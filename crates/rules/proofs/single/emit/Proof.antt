@@ -2,6 +2,7 @@
 use native.Mathlib.Omega.{arith}
 use Rattle.rules.proofs.Looking.{denied, granted}
 use Rattle.rules.proofs.Stating as L
+use Rattle.rules.proofs.Moving as M
 use Rattle.rules.proofs.single.emit.Statement.{statement}
 use Rattle.rules.proofs.single.emit.Tie as tie
 use borrow.Author.Needs.{needs}
@@ -31,7 +32,7 @@ same-length-3 : tie.Need-same-length-3
 same-length-3 c = search needs
 
 returns : tie.Need-returns
-returns c = L.emit-wrong _ _ _ _ _ _ _ _ _ (c .before .before .before .before .before .before .before .before .before .before .before .expression .ensures) (c .before .before .before .r .given .1) (c .before .same-type .ensures) (denied _ (c .if1 .taken))
+returns c = (L.emit-wrong _ _ _ _ _ _ _ _ _ (c .before .before .before .before .before .before .before .before .before .before .before .expression .ensures) (c .before .before .before .r .given .1) (c .before .same-type .ensures) (denied _ (c .if1 .taken)), M.stuck _ _ _ _)
 
 header-requires : tie.Need-header-requires
 header-requires c κs = omega (arith, c .before .before .before .before .before .before .before .before .before .before .before .before .before .before .before .before .before .before .before .before .before .before .before .pre .header, c .before .before .before .before .before .before .before .before .before .before .before .before .expression .kept .1 .1 .1 .1 .1 .1 .1 .1 .0)
@@ -49,7 +50,7 @@ same-length-6 : tie.Need-same-length-6
 same-length-6 c = search needs
 
 returns-2 : tie.Need-returns-2
-returns-2 c = L.emit-next _ _ _ _ _ _ _ _ _ (c .before .before .before .before .before .before .before .before .before .before .before .before .before .before .before .expression .ensures) (c .before .before .before .before .before .before .before .r .given .1) (c .before .before .before .before .before .same-type .ensures) (granted _ (c .before .before .before .before .if1 .left)) (c .before .before .header .ensures)
+returns-2 c = (L.emit-next _ _ _ _ _ _ _ _ _ (c .before .before .before .before .before .before .before .before .before .before .before .before .before .before .before .expression .ensures) (c .before .before .before .before .before .before .before .r .given .1) (c .before .before .before .before .before .same-type .ensures) (granted _ (c .before .before .before .before .if1 .left)) (c .before .before .header .ensures), M.stays _ _ _)
 
 same-length-7 : tie.Need-same-length-7
 same-length-7 c = search needs
@@ -61,7 +62,7 @@ same-length-9 : tie.Need-same-length-9
 same-length-9 c = search needs
 
 returns-3 : tie.Need-returns-3
-returns-3 c = L.emit-fault _ _ _ _ _ _ _ _ _ (c .before .before .before .before .before .before .before .before .before .expression .ensures) (c .before .r2 .given .1)
+returns-3 c = (L.emit-fault _ _ _ _ _ _ _ _ _ (c .before .before .before .before .before .before .before .before .before .expression .ensures) (c .before .r2 .given .1), M.stuck _ _ _ _)
 
 pub emit-spec : {M : Type 1} → statement M
 emit-spec = tie.close (tie.spec add-expression add-expression-2 expression-requires enum-known-r same-type-requires same-length same-length-2 same-length-3 returns header-requires enum-known-r-2 same-length-4 same-length-5 same-length-6 returns-2 same-length-7 same-length-8 same-length-9 returns-3)

@@ -1,0 +1,13 @@
+pub mod Views
+pub mod Scanning
+pub mod Written
+pub mod Bodies
+pub mod Arguments
+pub mod Valuing
+pub mod Deciding
+pub mod Calling
+pub mod Placing
+pub mod Stating
+pub mod Functioning
+pub mod Layouts
+pub mod Holding

@@ -1,0 +1,11 @@
+pub mod Names
+pub mod Standing
+pub mod Few
+pub mod Declaring
+pub mod Starting
+pub mod Programs
+pub mod Taking
+pub mod Finishing
+pub mod Filling
+pub mod Rooms
+pub mod Together

@@ -1,0 +1,10 @@
+pub mod Laws
+pub mod Low
+pub mod Pieces
+pub mod Skips
+pub mod Strictly
+pub mod Unaries
+pub mod Arrays
+pub mod Calling
+pub mod Ends
+pub mod Wordwise

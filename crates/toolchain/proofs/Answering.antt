@@ -1,0 +1,78 @@
+-- The entries' cases, by what `accept` says of the text.
+use Prim.Native.Nat.{ℕ, _+_, _≤_, _<_}
+use mathlib.Core.Bool.{Bool, true, false}
+use mathlib.Core.Logic.{_⊎_, inl, inr}
+use mathlib.Core.Path.{_≡_, refl, sym, _∙_, subst}
+use mathlib.Core.List.{List, _++_}
+use native.Mathlib.Omega.{arith}
+use lib.ListN.{length, drop}
+use lib.Seq.{sets-eq}
+use Rattle.language.specs.Tree.{Item}
+use Rattle.language.specs.Grammar.{Parses}
+use Rattle.language.specs.Rules.{elaborate}
+use Rattle.tokens.specs.Kinds.{token-room}
+use Rattle.grammar.specs.Flat.{tree-room}
+use Rattle.grammar.specs.Answers.{Answers, Case, Good, Bad}
+use Rattle.grammar.specs.declared.Parsed.{Parsed}
+use Rattle.grammar.specs.declared.Parsed.the-variants.{Tree, Unreadable, NoRoom}
+use Rattle.flat.specs.Words.{wordsOf}
+use Rattle.declarations.specs.Post.{ElaborateCase, Elaborates, Kept}
+use Rattle.declarations.specs.declared.Elaborated as D
+use Rattle.declarations.specs.declared.Elaborated.the-variants as E
+use Rattle.toolchain.specs.Checking.{Work, Enough, Lacks, Answered, unreadable, broken, core-room}
+use Rattle.toolchain.specs.Accepting.{AcceptCase, Accepts, Made, Elaborated}
+use Rattle.toolchain.specs.declared.accept.Accepting.{Accepting}
+use Rattle.toolchain.specs.declared.accept.Accepting.the-variants.{Program, Refused}
+
+-- what the test of working room told
+pub lacks : {b : Bool} (w : Work) → Lacks b w → b ≡ true → Enough w → ⊥
+lacks w t e = subst (λ (c : Bool). Lacks c w) e t
+
+pub suffices : {b : Bool} (w : Work) → Lacks b w → b ≡ false → Enough w
+suffices w t e = subst (λ (c : Bool). Lacks c w) e t
+
+module _ {text core : List ℕ} {a : Accepting} (h : Accepts text a core) where
+  pub made : {n : ℕ} → a ≡ Program n → Made text n core
+  made e = subst (λ (r : Accepting). AcceptCase text r core) e (h .by)
+
+  pub refused : {n at : ℕ} → a ≡ Refused n at → Answered text n at × (n ≡ 0 → ⊥)
+  refused e = subst (λ (r : Accepting). AcceptCase text r core) e (h .by)
+
+-- what `elaborate` says of a tree
+module _ {text tree core core′ : List ℕ} {words : ℕ} {r : D.Elaborated} (h : Elaborates text tree words core r core′) where
+  pub program-of : {n : ℕ} → r ≡ E.Kept n → core-room ≤ length core → Elaborated text tree words (Program n) core′
+  program-of {n} e room = record {
+    by = λ items before p t w. whole items p (subst (λ (x : D.Elaborated). ElaborateCase (elaborate items (length text)) core x core′) e (h .by items before p t w));
+  }
+    where
+      whole : (items : List Item) → Parses text items → Kept (elaborate items (length text)) n core core′ → Made text n core′
+      whole items p k = record {
+        program = k .value;
+        accepted = record { items = items; parses = p; ruled = k .is };
+        more = drop (0 + length (wordsOf (k .value))) core;
+        there = k .there ∙ sets-eq (wordsOf (k .value)) core 0 (let a = k .size in let b = k .short in omega (arith, a, b, room));
+        size = k .size;
+        short = k .short;
+      }
+
+  pub broken-of : {at : ℕ} → r ≡ E.Broken at → Elaborated text tree words (Refused 2 at) core′
+  broken-of e = record {
+    by = λ items before p t w. (broken (record { items = items; parses = p; ruled = subst (λ (x : D.Elaborated). ElaborateCase (elaborate items (length text)) core x core′) e (h .by items before p t w) }), λ (z : _≡_ {A = ℕ} 2 0). omega (arith, z));
+  }
+
+-- what `parse` says of a text
+module _ {text room before after : List ℕ} {r : Parsed} (h : Answers text room before r after) where
+  pub tree-of : {c e : ℕ} → r ≡ Tree c e → Good text before c e after
+  tree-of e = subst (λ (x : Parsed). Case text room before x after) e (h .by)
+
+  pub unreadable-of : {at : ℕ} → r ≡ Unreadable at → Answered text 1 at × (_≡_ {A = ℕ} 1 0 → ⊥)
+  unreadable-of e =
+      let b : Bad text _ = subst (λ (x : Parsed). Case text room before x after) e (h .by) in
+      (unreadable (b .never) (b .says), λ (z : _≡_ {A = ℕ} 1 0). omega (arith, z))
+
+  pub room-enough : r ≡ NoRoom → token-room ≤ length room → tree-room ≤ length before → ⊥
+  room-enough e a b = go (subst (λ (x : Parsed). Case text room before x after) e (h .by))
+    where
+      go : (length room < token-room) ⊎ (length before < tree-room) → ⊥
+      go (inl l) = omega (arith, l, a)
+      go (inr l) = omega (arith, l, b)
