@@ -2,7 +2,7 @@
 """Writes crates/document_01/stdin and stdout: what is asked about texts of document 01, and what must be answered.
 
 The answers come from a second reading of document 01 that shares nothing with the tool chain: `reading` has its sections 2 and 3, `rules` section 4,
-`meaning` section 5. `read_cases` says what the lines ask. Run it again after a change; it must leave both files as they
+`meaning` section 5. `read_cases`, `check_cases` and `run_cases` say what the lines ask. Run it again after a change; it must leave both files as they
 are (`--check` says whether it would).
 
 A line of stdin is `"` and a title, or a letter, numbers in hex and a text. In a text `\\` begins `\\n`, `\\t`, `\\r`, `\\\\`, `\\xHH`, a mark `\\(`, or `\\)`
@@ -12,9 +12,11 @@ import os
 import sys
 
 import asking
+import check_cases
 import read_cases
+import run_cases
 
-read_cases.cases()
+for cases in (read_cases, check_cases, run_cases): cases.cases()
 
 here = os.path.join(os.path.dirname(os.path.abspath(__file__)), "..", "..", "crates", "document_01")
 for file, lines in (("stdin", asking.asks), ("stdout", asking.answers)):
