@@ -175,8 +175,12 @@ fn all_windows(
 }
 
 // The buffers, each made by a function, so that a proof has its length and not its elements.
-fn line_room() -> [u8; 65536] {
+fn window_room() -> [u8; 65536] {
     [0; 65536]
+}
+
+fn line_room() -> [u8; 262144] {
+    [0; 262144]
 }
 
 fn text_room() -> [u8; 135168] {
@@ -208,7 +212,7 @@ fn core_room() -> [u32; 525315] {
 }
 
 fn main() {
-    let mut window = line_room();
+    let mut window = window_room();
     let mut line = line_room();
     let mut text = text_room();
     let mut arrays = arrays_room();
