@@ -54,3 +54,8 @@ pub record Pictures (ws bytes : List ℕ) (c : Compiled) (bytes′ : List ℕ) :
 -- of every program that keeps the rules and whose words these are
 pub record Compiles (ws bytes : List ℕ) (c : Compiled) (bytes′ : List ℕ) : Type 0 where
   pub each : (p : Program) (more : List ℕ) → ws ≡ wordsThen p more → Owed p → Gives p bytes c bytes′
+
+-- no image is longer than that
+abbrev pub Bounded : Compiled → Type 0
+Bounded (Image n) = n ≤ longest-code
+Bounded TooLong = Unit {0}

@@ -1,7 +1,7 @@
 // Whole programs: where functions begin, their code, and the image.
 ghost use Prim.Native.Nat.{_+_, _*_, _≤_, _<_};
 ghost use lib.ListN.{length, getD};
-ghost use Rattle.compiler.specs.Programs.{Lengths, Layout, Bodies, Compiles};
+ghost use Rattle.compiler.specs.Programs.{Lengths, Layout, Bodies, Compiles, Bounded};
 use crate::Compiled;
 use crate::calls::entry_of;
 use crate::functions::function;
@@ -84,6 +84,7 @@ pub fn compile(
 ) -> Compiled
     requires { ⌜ (length (now words) ≤ 1073741824) × ((3 + 4 * getD (now words) 0 0 ≤ 1073741824) × ((getD (now words) 0 0 < length (now entries)) × (131072 ≤ length (now out)))) ⌝ }
     ensures { λ r. ⌜ Compiles (now (words .entry)) (now (image .entry)) r (now (image .exit)) ⌝ }
+    ensures bounded { λ r. ⌜ Bounded r ⌝ }
 {
     let n = word(words, 0) as usize;
     let end = layout(words, n, entries, scratch);

@@ -26,7 +26,7 @@ use Rattle.declarations.proofs.Declaring.{no-more, some-more}
 -- One item
 
 module _ (text tree : List ℕ) (gs : List Global) (p q f : ℕ) (core : List ℕ) {k : ℕ} (ek : k ≡ word tree p) where
-  array-passes : k ≡ 0 → (words : ℕ) (i : Item) (is : List Item) → Standing text tree words p (i ∷ is) → PassCase text tree gs p q f core i (To.At q f) core
+  array-passes : k ≡ 0 → (words : ℕ) (i : Item) (is : List Item) → Standing text tree words p (i ∷ is) → PassCase gs q f core i (To.At q f) core
   array-passes z words (array at x n) is s = (refl, refl, refl)
   array-passes z words (function at x ps t b) is s = absurd (let y = S.function-at s in omega (arith, z, ek, y .kind))
 
@@ -35,7 +35,7 @@ module _ (text tree : List ℕ) (gs : List Global) (p q f : ℕ) (core : List �
 
   module _ (z : k ≡ 0 → ⊥) where
     function-passes : {j : ℕ} {core′ : List ℕ} → j ≡ word tree (p + 6) → Makes text tree gs p q (entry f) core Is.Kept core′ → (words : ℕ) (i : Item) (is : List Item) → Standing text tree words p (i ∷ is) → FewParameters (i ∷ is) →
-        PassCase text tree gs p q f core i (To.At (q + j) (f + 1)) core′
+        PassCase gs q f core i (To.At (q + j) (f + 1)) core′
     unfolding FewParameters
     function-passes ej m words (array at x n) is s few = absurd (z (ek ∙ S.array-at s .kind))
     function-passes ej m words (function at x ps t b) is s few = (ap (λ (i : ℕ). q + i) (ej ∙ S.function-at s .body), refl, m .by words at x ps t b is s (few .0))
@@ -50,7 +50,7 @@ module _ (text tree : List ℕ) (gs : List Global) (p q f : ℕ) (core : List �
       bounded = (bound ej, omega arith);
     }
 
-    fault-passes : {d : Place} {core′ : List ℕ} → Makes text tree gs p q (entry f) core (Is.Broken d) core′ → (words : ℕ) (i : Item) (is : List Item) → Standing text tree words p (i ∷ is) → FewParameters (i ∷ is) → PassCase text tree gs p q f core i (To.Broken d) core′
+    fault-passes : {d : Place} {core′ : List ℕ} → Makes text tree gs p q (entry f) core (Is.Broken d) core′ → (words : ℕ) (i : Item) (is : List Item) → Standing text tree words p (i ∷ is) → FewParameters (i ∷ is) → PassCase gs q f core i (To.Broken d) core′
     unfolding FewParameters
     fault-passes m words (array at x n) is s few = absurd (z (ek ∙ S.array-at s .kind))
     fault-passes m words (function at x ps t b) is s few = m .by words at x ps t b is s (few .0)
@@ -105,7 +105,7 @@ module _ (text tree : List ℕ) (words : ℕ) (gs : List Global) (total : ℕ) (
   abbrev Rest : List Item → Type 0
   Rest is = m ≡ functionsFrom gs is >>= λ fs. keeps (done ++ fs)
 
-  item-next : {j k : ℕ} {core′ : List ℕ} (i : Item) (is : List Item) → Standing text tree words p (i ∷ is) → FewParameters (i ∷ is) → Rest (i ∷ is) → total ≡ f + functionCount (i ∷ is) → PassCase text tree gs p q f core i (To.At j k) core′ → Onward j k core′
+  item-next : {j k : ℕ} {core′ : List ℕ} (i : Item) (is : List Item) → Standing text tree words p (i ∷ is) → FewParameters (i ∷ is) → Rest (i ∷ is) → total ≡ f + functionCount (i ∷ is) → PassCase gs q f core i (To.At j k) core′ → Onward j k core′
   unfolding functionsFrom FewParameters functionCount
   item-next (array at x z) is s few e l c = record {
     rest = is;
@@ -134,7 +134,7 @@ module _ (text tree : List ℕ) (words : ℕ) (gs : List Global) (total : ℕ) (
   some-next l x [] s few e c = absurd (no-more s l)
   some-next l x (i ∷ is) s few e c = item-next i is s few e c (x .by words i is s few)
 
-  item-fault : {d : Place} (core′ : List ℕ) (i : Item) (is : List Item) → Rest (i ∷ is) → PassCase text tree gs p q f core i (To.Broken d) core′ → m ≡ breaks d
+  item-fault : {d : Place} (core′ : List ℕ) (i : Item) (is : List Item) → Rest (i ∷ is) → PassCase gs q f core i (To.Broken d) core′ → m ≡ breaks d
   unfolding functionsFrom
   item-fault core′ (array at x z) is e c = absurd c
   item-fault core′ (function at x ps t b) is e c = e ∙ stopped _ (stopped _ c)
@@ -143,7 +143,7 @@ module _ (text tree : List ℕ) (words : ℕ) (gs : List Global) (total : ℕ) (
   some-fault l {core′ = core′} x [] s few e = absurd (no-more s l)
   some-fault l {core′ = core′} x (i ∷ is) s few e = item-fault core′ i is e (x .by words i is s few)
 
-  none-left : words ≤ p → words ≤ tree-room → total ≤ most-functions → q ≤ p + entry total → (is : List Item) → Standing text tree words p is → Rest is → total ≡ f + functionCount is → Filled m total q f core₀ core
+  none-left : words ≤ p → words ≤ tree-room → total ≤ most-functions → q ≤ p + entry total → (is : List Item) → Standing text tree words p is → Rest is → total ≡ f + functionCount is → Filled m total q core₀ core
   unfolding functionsFrom functionCount _>>=_ G.itemsWords
   none-left l u v w [] s e c = record {
     value = done;

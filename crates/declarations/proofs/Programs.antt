@@ -4,7 +4,7 @@ use mathlib.Core.List.{List, [], _∷_, _++_, append-assoc}
 use Prim.Native.Nat.{ℕ, suc, _+_, _*_, _≤_, _<_}
 use native.Mathlib.Omega.{arith}
 use lib.ListN.{length, length-append, set}
-use lib.Seq.{sets, set-comm}
+use lib.Seq.{sets}
 use Rattle.language.specs.Core as C
 use Rattle.grammar.proofs.FlatLaws.{Linear, both}
 use Rattle.flat.specs.Items.{Kind, Item}
@@ -12,7 +12,7 @@ use Rattle.flat.specs.Items as I
 use Rattle.flat.specs.Statements.{Stmt, Block, flats}
 use Rattle.flat.specs.Statements as S
 use Rattle.flat.specs.Words.{kindWords, itemsWords, header, count, restLength, blockLength, stmtWords, blockWords, entries, bodies, entry, wordsThen, wordsOf}
-use Rattle.rules.proofs.Stacks.{sets-append}
+use Rattle.rules.proofs.Stacks.{sets-append, set-before}
 use Rattle.rules.proofs.Extents.{flat-block}
 use Rattle.declarations.specs.Post.{entryOf, bodyOf}
 
@@ -93,13 +93,9 @@ entries-more (g ∷ fs) f place =
 
 -- Two rows: entries from 3 on, bodies from further on
 
-set-below : (l : List ℕ) (p q v : ℕ) (c : List ℕ) → q < p → set (sets l p c) q v ≡ sets (set l q v) p c
-set-below l p q v [] h = refl
-set-below l p q v (x ∷ c) h = set-below (set l p x) (suc p) q v c (omega (arith, h)) ∙ ap (λ (w : List ℕ). sets w (suc p) c) (set-comm l p q x v (λ (e : p ≡ q). omega (arith, e, h)))
-
 sets-below : (l : List ℕ) (p q : ℕ) (c h : List ℕ) → q + length h ≤ p → sets (sets l p c) q h ≡ sets (sets l q h) p c
 sets-below l p q c [] k = refl
-sets-below l p q c (x ∷ h) k = ap (λ (w : List ℕ). sets w (suc q) h) (set-below l p q x c (omega (arith, k))) ∙ sets-below (set l q x) p (suc q) c h (omega (arith, k))
+sets-below l p q c (x ∷ h) k = ap (λ (w : List ℕ). sets w (suc q) h) (set-before l p q x c (omega (arith, k))) ∙ sets-below (set l q x) p (suc q) c h (omega (arith, k))
 
 two-rows : (c : List ℕ) (a q : ℕ) (u v x y : List ℕ) → a + length u + length x ≤ q → sets (sets (sets (sets c a u) q v) (q + length v) y) (a + length u) x ≡ sets (sets c a (u ++ x)) q (v ++ y)
 two-rows c a q u v x y l =

@@ -18,6 +18,7 @@ use Rattle.grammar.specs.Flat as G
 use Rattle.grammar.proofs.FlatLaws.{params-linear, block-linear}
 use Rattle.rules.specs.Tables.{word, typeOf, resultOf, typesFrom}
 use Rattle.rules.specs.Named.{Stands, NamedParams, NamedBlock, NamedItems}
+use Rattle.rules.proofs.Extents.{past-block}
 use Rattle.declarations.specs.Post.{Standing, nextOf}
 
 pub word-in : (tree : List ℕ) {ws : List ℕ} (p k : ℕ) → drop p tree ≡ ws → word tree (p + k) ≡ word ws k
@@ -88,9 +89,6 @@ module _ (ps : List Param) (b : T.Block) (more : List ℕ) where
   pub past-params : drop (3 * length ps) (G.paramsWords ps more) ≡ more
   past-params = ap (drop (3 * length ps)) (params-linear ps more) ∙ drop-at (G.paramsWords ps []) more (3 * length ps) (params-length ps)
 
-  pub past-block : drop (length (G.blockWords b [])) (G.blockWords b more) ≡ more
-  past-block = ap (drop (length (G.blockWords b []))) (block-linear b more) ∙ drop-at (G.blockWords b []) more _ refl
-
   pub all-words : length (G.paramsWords ps (G.blockWords b more)) ≡ 3 * length ps + (length (G.blockWords b []) + length more)
   all-words =
       ap length (params-linear ps (G.blockWords b more)) ∙ (length-append (G.paramsWords ps []) (G.blockWords b more) ∙
@@ -117,7 +115,7 @@ function-at {tree = tree} {p = p} {ps = ps} {b = b} {is = is} s =
       body-at = body;
       rest = record {
         more = s .more;
-        is = drop-in tree (p + 8 + 3 * length ps) (length (G.blockWords b [])) body ∙ past-block ps b (G.itemsWords is (s .more));
+        is = drop-in tree (p + 8 + 3 * length ps) (length (G.blockWords b [])) body ∙ past-block b (length (G.blockWords b [])) (G.itemsWords is (s .more)) refl;
         size = omega (arith, s .size, all-words ps b (G.itemsWords is []));
         named = s .named .3;
       };

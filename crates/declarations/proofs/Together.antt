@@ -79,7 +79,7 @@ module _ (text tree : List ℕ) (words : ℕ) (gs : List Global) (total elements
     unfolding built
     build-fault {d} k = record { by = λ is z few n. went _ (main-is e) (stopped _ (subst (λ (u : Reached). FillCase (functionsFrom gs is) total core₁ u core₂) k (f .by is z few n))) }
 
-    program-kept : {q j : ℕ} (is : List Item) → Filled (functionsFrom gs is) total q j core₁ core₂ → Kept (built gs is (length text) elements) q core core₂
+    program-kept : {q : ℕ} (is : List Item) → Filled (functionsFrom gs is) total q core₁ core₂ → Kept (built gs is (length text) elements) q core core₂
     unfolding built
     program-kept is w = record {
       value = record { functions = w .value; main = m; elements = elements };

@@ -202,23 +202,23 @@ FewParameters (T.array at x n ∷ is) = FewParameters is
 FewParameters (T.function at x ps r b ∷ is) = (length ps ≤ most-parameters) × FewParameters is
 
 -- one item
-abbrev pub PassCase : List ℕ → List ℕ → List Global → ℕ → ℕ → ℕ → List ℕ → Item → Reached → List ℕ → Type 0
-PassCase text tree globals p q f core (T.array at x n) (To.At j k) core′ = (j ≡ q) × (k ≡ f) × (core′ ≡ core)
-PassCase text tree globals p q f core (T.function at x ps t b) (To.At j k) core′ =
+abbrev pub PassCase : List Global → ℕ → ℕ → List ℕ → Item → Reached → List ℕ → Type 0
+PassCase globals q f core (T.array at x n) (To.At j k) core′ = (j ≡ q) × (k ≡ f) × (core′ ≡ core)
+PassCase globals q f core (T.function at x ps t b) (To.At j k) core′ =
     (j ≡ q + length (G.blockWords b [])) × (k ≡ f + 1) × Made b (functionFrom globals at ps t b) q (entry f) core core′
-PassCase text tree globals p q f core (T.array at x n) (To.Broken b) core′ = ⊥
-PassCase text tree globals p q f core (T.function at x ps t c) (To.Broken b) core′ = functionFrom globals at ps t c ≡ breaks b
+PassCase globals q f core (T.array at x n) (To.Broken b) core′ = ⊥
+PassCase globals q f core (T.function at x ps t c) (To.Broken b) core′ = functionFrom globals at ps t c ≡ breaks b
 
 abbrev pub PassBound : List ℕ → ℕ → ℕ → ℕ → Reached → Type 0
 PassBound tree p q f (To.At j k) = (j + p ≤ q + nextOf tree p) × (k ≤ f + 1)
 PassBound tree p q f (To.Broken b) = Unit {0}
 
 pub record Passes (text tree : List ℕ) (globals : List Global) (p q f : ℕ) (core : List ℕ) (r : Reached) (core′ : List ℕ) : Type 0 where
-  pub by : (words : ℕ) (i : Item) (is : List Item) → Standing text tree words p (i ∷ is) → FewParameters (i ∷ is) → PassCase text tree globals p q f core i r core′
+  pub by : (words : ℕ) (i : Item) (is : List Item) → Standing text tree words p (i ∷ is) → FewParameters (i ∷ is) → PassCase globals q f core i r core′
   pub bounded : PassBound tree p q f r
 
 -- all functions: the two rows of the core
-pub record Filled (m : Ruled (List C.Function)) (total q f : ℕ) (core core′ : List ℕ) : Type 0 where
+pub record Filled (m : Ruled (List C.Function)) (total q : ℕ) (core core′ : List ℕ) : Type 0 where
   pub value : List C.Function
   pub is : m ≡ keeps value
   pub count : length value ≡ total
@@ -227,7 +227,7 @@ pub record Filled (m : Ruled (List C.Function)) (total q f : ℕ) (core core′ 
   pub short : q ≤ core-room
 
 abbrev pub FillCase : Ruled (List C.Function) → ℕ → List ℕ → Reached → List ℕ → Type 0
-FillCase m total core (To.At q f) core′ = Filled m total q f core core′
+FillCase m total core (To.At q f) core′ = Filled m total q core core′
 FillCase m total core (To.Broken at) core′ = m ≡ breaks at
 
 pub record Fills (text tree : List ℕ) (words : ℕ) (globals : List Global) (total : ℕ) (core : List ℕ) (r : Reached) (core′ : List ℕ) : Type 0 where

@@ -4,10 +4,9 @@ use mathlib.Core.Bool.{Bool, true, false}
 use mathlib.Core.List.{List, [], _∷_}
 use mathlib.Core.Option.{Option}
 use Prim.Native.Nat.{ℕ, zero, suc, _+_}
-use native.Mathlib.Omega.{arith}
 use lib.Dec.{eqb}
 use lib.ListN.{length, drop}
-use borrow.Author.Tests.{eq-eqb, ne-eqb}
+use borrow.Author.Tests.{ne-eqb}
 use Rattle.language.specs.Tree.{Place, Ty, int, bool}
 use Rattle.language.specs.Tree as T
 use Rattle.language.specs.Rules.{Global, stmt}
@@ -31,7 +30,7 @@ pub holds-last : (k : ℕ) {b : Bool} → (k ≡ 2 → ⊥) → (k ≡ 3 → ⊥
 unfolding holdsBlocks
 holds-last k d e h = rw (ne-eqb k 2 d, ne-eqb k 3 e) h
 
-abbrev Truth : Bool → Type 0
+abbrev pub Truth : Bool → Type 0
 Truth true = Unit {0}
 Truth false = ⊥
 

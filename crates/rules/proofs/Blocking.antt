@@ -1,33 +1,32 @@
 -- A block, statement by statement: what the rest gives is what the whole gives.
 use mathlib.Core.Path.{_≡_, refl, sym, ap, subst, _∙_}
-use mathlib.Core.List.{List, [], _∷_, _++_}
+use mathlib.Core.List.{List, []}
 use mathlib.Core.Option.{Option}
-use Prim.Native.Nat.{ℕ, zero, suc, _+_, _*_, _≤_, _<_}
+use Prim.Native.Nat.{ℕ, _+_, _*_, _≤_, _<_}
 use native.Mathlib.Omega.{arith}
-use lib.ListN.{length, getD, drop, length-drop, length-append}
-use lib.Seq.{sets, drop-drop}
+use lib.ListN.{length, drop}
+use lib.Seq.{sets}
 use Rattle.language.specs.Tree.{Place, Ty}
 use Rattle.language.specs.Tree as T
 use Rattle.language.specs.Core as C
-use Rattle.language.specs.Rules.{Ruled, keeps, breaks, _>>=_, Global, Scope, stmt, block}
+use Rattle.language.specs.Rules.{Ruled, keeps, breaks, Global, Scope, stmt, block, most-locals}
 use Rattle.grammar.specs.Flat as G
-use Rattle.grammar.proofs.FlatLaws.{stmt-linear}
 use Rattle.flat.specs.Statements.{flat, flats}
 use Rattle.flat.specs.Words as F
 use Rattle.flat.specs.Words.{restLength}
 use Rattle.flat.proofs.Writing.{stmt-then}
-use Rattle.rules.specs.Tables.{word, localsIn}
+use Rattle.rules.specs.Tables.{word}
 use Rattle.rules.specs.Named.{NamedStmt, NamedBlock}
 use Rattle.rules.specs.declared.Step.{Step}
 use Rattle.rules.specs.declared.Step.the-variants as To
 use Rattle.rules.specs.declared.Counted.{Counted}
 use Rattle.rules.specs.declared.Counted.the-variants as Now
-use Rattle.rules.specs.Post.{Room, scopeOf, Stated, StmtCase}
-use Rattle.rules.specs.Statements.{Heads, Moves, StepCase, Within, BlockRoom, StmtRoom, Statement, Blocked, BlockCase, CountCase, Blocks}
+use Rattle.rules.specs.Post.{scopeOf, Stated, StmtCase, most-places, most-words}
+use Rattle.rules.specs.Statements.{Heads, Moves, StepCase, Within, BlockRoom, StmtRoom, Statement, Blocked, Blocks}
 use Rattle.rules.proofs.Stacks.{sets-append}
 use Rattle.rules.proofs.Stating.{went, stopped}
-use Rattle.rules.proofs.Heading.{further}
-use Rattle.rules.proofs.Extents.{flat-stmt, stmt-extent, past-stmt, stmt-same, block-same}
+use Rattle.rules.proofs.Extents.{flat-stmt, stmt-same, block-same}
+use Rattle.rules.proofs.Walking.{Left, Next, next, ended, there, following, onward}
 
 -- a block of the core, written from q on
 pub record Written (m : Ruled (C.Block × ℕ)) (q : ℕ) (core : List ℕ) (count : ℕ) (core′ : List ℕ) : Type 0 where
@@ -39,24 +38,21 @@ abbrev pub WriteCase : Ruled (C.Block × ℕ) → ℕ → List ℕ → Counted �
 WriteCase m q core (Now.Count count) core′ = Written m q core count core′
 WriteCase m q core (Now.Broken at) core′ = m ≡ breaks at
 
--- the i first of n statements are done: what is left stands at `at`, and goes to `to`
-pub record Left (text : List ℕ) (gs : List Global) (result : Option Ty) (tree : List ℕ) (n : ℕ) (locals₀ : List ℕ) (l₀ count₀ q : ℕ) (core₀ : List ℕ) (b : T.Block) (more : List ℕ) (i at to l count : ℕ) (locals core : List ℕ) : Type 0 where
-  pub rest : T.Block
-  pub words : drop at tree ≡ G.blockWords rest more
-  pub many : n ≡ i + G.count rest
+-- what is left, with its names, goes on to what the whole gives
+pub record Rest (text : List ℕ) (gs : List Global) (result : Option Ty) (locals₀ : List ℕ) (l₀ count₀ q : ℕ) (core₀ : List ℕ) (b : T.Block) (to l count : ℕ) (locals core : List ℕ) (rest : T.Block) : Type 0 where
   pub named : NamedBlock text rest
   pub goes-on : (r : Counted) (core′ : List ℕ) → WriteCase (block gs result rest (scopeOf gs text locals l count)) to core r core′ → WriteCase (block gs result b (scopeOf gs text locals₀ l₀ count₀)) q core₀ r core′
 
 pub record Blocking (text : List ℕ) (gs : List Global) (result : Option Ty) (tree : List ℕ) (g n p q : ℕ) (locals₀ : List ℕ) (l₀ count₀ : ℕ) (types₀ starts₀ core₀ : List ℕ) (i at to l count : ℕ) (locals types starts core : List ℕ) : Type 0 where
-  pub left : (b : T.Block) (more : List ℕ) → drop p tree ≡ G.blockWords b more → n ≡ G.count b → NamedBlock text b → Left text gs result tree n locals₀ l₀ count₀ q core₀ b more i at to l count locals core
+  pub left : (b : T.Block) (more : List ℕ) → drop p tree ≡ G.blockWords b more → n ≡ G.count b → NamedBlock text b → Left tree n more i at (Rest text gs result locals₀ l₀ count₀ q core₀ b to l count locals core)
   pub kept : (j : ℕ) → j < 4 * l₀ → word locals j ≡ word locals₀ j
   pub far : p ≤ at
   pub apart : at + q ≡ to + p
-  pub near : at ≤ 17179869184
+  pub near : at ≤ most-places
   pub seen : l₀ ≤ l
   pub visible : l ≤ count
   pub counted : count₀ ≤ count
-  pub few : count ≤ 64
+  pub few : count ≤ most-locals
   pub for-locals : length locals ≡ length locals₀
   pub for-types : length types ≡ length types₀
   pub for-starts : length starts ≡ length starts₀
@@ -65,7 +61,7 @@ pub record Blocking (text : List ℕ) (gs : List Global) (result : Option Ty) (t
 pub block-starts : (text : List ℕ) (gs : List Global) (result : Option Ty) (tree : List ℕ) (g n p q : ℕ) (locals : List ℕ) (l count : ℕ) (types starts core : List ℕ) → BlockRoom tree g locals l count types starts core p q →
     Blocking text gs result tree g n p q locals l count types starts core 0 p q l count locals types starts core
 block-starts text gs result tree g n p q locals l count types starts core h = record {
-  left = λ b more ew en nm. record { rest = b; words = ew; many = en ∙ omega arith; named = nm; goes-on = λ r core′ x. x };
+  left = λ b more ew en nm. record { rest = b; words = ew; many = en ∙ omega arith; holds = record { named = nm; goes-on = λ r core′ x. x } };
   kept = λ j h. refl;
   far = omega arith;
   apart = omega arith;
@@ -79,6 +75,10 @@ block-starts text gs result tree g n p q locals l count types starts core h = re
   for-starts = refl;
   for-core = refl;
 }
+
+named-then : (text : List ℕ) (s : T.Stmt) (b : T.Block) → NamedBlock text (T.then s b) → NamedStmt text s × NamedBlock text b
+unfolding NamedStmt
+named-then text s b h = h
 
 -- a statement, and then the rest
 module _ (text : List ℕ) (gs : List Global) (result : Option Ty) (s : T.Stmt) (b : T.Block) (σ : Scope gs) where
@@ -116,107 +116,62 @@ module _ {text : List ℕ} {gs : List Global} {result : Option Ty} {tree : List 
   abbrev Whole : Counted → List ℕ → List ℕ → Type 0
   Whole r locals′ core′ = Blocks text gs locals₀ l₀ count₀ result n (drop p tree) q core₀ r locals′ core′
 
-  abbrev Rest : T.Block → List ℕ → Type 0
-  Rest b more = Left text gs result tree n locals₀ l₀ count₀ q core₀ b more i at to l count locals core
-
-  -- of a block whose rest is empty
-  end-case : {A : Type 0} (r : T.Block) → G.count r ≡ 0 → (Written (block gs result r (scopeOf gs text locals l count)) to core count core → A) → A
-  unfolding stmt G.count flats F.blockWords
-  end-case T.end e k = k (record { value = C.end; is = refl; there = refl })
-  end-case (T.then s b) e k = absurd (omega (arith, e))
+  abbrev Now-left : T.Block → T.Block → Type 0
+  Now-left b = Rest text gs result locals₀ l₀ count₀ q core₀ b to l count locals core
 
   pub block-ends : n ≤ i → Whole (Now.Count count) locals core
-  block-ends h = record { by = λ b more ew en nm. sized b (go b more (c .left b more ew en nm)); kept = c .kept; bounded = (c .counted, c .few) }
+  unfolding stmt flats F.blockWords
+  block-ends h = record { by = λ b more ew en nm. sized b (ended h (c .left b more ew en nm) .goes-on (Now.Count count) core (record { value = C.end; is = refl; there = refl })); kept = c .kept; bounded = (c .counted, c .few) }
     where
-      ended : (b r : T.Block) (more : List ℕ) → G.count r ≡ 0 → ((o : Counted) (core′ : List ℕ) → WriteCase (block gs result r (scopeOf gs text locals l count)) to core o core′ → WriteCase (block gs result b (scopeOf gs text locals₀ l₀ count₀)) q core₀ o core′) →
-          Written (block gs result b (scopeOf gs text locals₀ l₀ count₀)) q core₀ count core
-      ended b r more e k = end-case r e (k (Now.Count count) core)
-
-      go : (b : T.Block) (more : List ℕ) → Rest b more → Written (block gs result b (scopeOf gs text locals₀ l₀ count₀)) q core₀ count core
-      go b more a = ended b (a .rest) more (omega (arith, a .many, h)) (a .goes-on)
-
       sized : (b : T.Block) → Written (block gs result b (scopeOf gs text locals₀ l₀ count₀)) q core₀ count core → Blocked b (block gs result b (scopeOf gs text locals₀ l₀ count₀)) q core₀ count core
       sized b w = record { value = w .value; is = w .is; there = w .there; size = block-same gs result b _ .holds _ (w .is) .same; statements = block-same gs result b _ .holds _ (w .is) .many }
 
   module _ (h : i < n) where
-    -- the statement that stands there, and what is left after it
-    record Next (b : T.Block) (more : List ℕ) : Type 0 where
-      pub first : T.Stmt
-      pub rest : T.Block
-      pub words : drop at tree ≡ G.stmtWords first (G.blockWords rest more)
-      pub many : n ≡ i + 1 + G.count rest
-      pub named : NamedStmt text first
-      pub named-rest : NamedBlock text rest
-      pub goes-on : (r : Counted) (core′ : List ℕ) → WriteCase (block gs result (T.then first rest) (scopeOf gs text locals l count)) to core r core′ → WriteCase (block gs result b (scopeOf gs text locals₀ l₀ count₀)) q core₀ r core′
+    abbrev Stands : T.Block → List ℕ → Type 0
+    Stands b more = Next tree n more i at (Now-left b)
 
-    next-of : (b : T.Block) (more : List ℕ) (r : T.Block) → drop at tree ≡ G.blockWords r more → n ≡ i + G.count r → NamedBlock text r →
-        ((o : Counted) (core′ : List ℕ) → WriteCase (block gs result r (scopeOf gs text locals l count)) to core o core′ → WriteCase (block gs result b (scopeOf gs text locals₀ l₀ count₀)) q core₀ o core′) → Next b more
-    unfolding G.stmtWords G.count NamedStmt
-    next-of b more T.end ew en nm k = absurd (omega (arith, en, h))
-    next-of b more (T.then s r) ew en nm k = record { first = s; rest = r; words = ew; many = en ∙ omega arith; named = nm .0; named-rest = nm .1; goes-on = k }
-
-    next : (b : T.Block) (more : List ℕ) → drop p tree ≡ G.blockWords b more → n ≡ G.count b → NamedBlock text b → Next b more
-    next b more ew en nm = go (c .left b more ew en nm)
-      where
-        go : Rest b more → Next b more
-        go a = next-of b more (a .rest) (a .words) (a .many) (a .named) (a .goes-on)
+    stands : (b : T.Block) (more : List ℕ) → drop p tree ≡ G.blockWords b more → n ≡ G.count b → NamedBlock text b → Stands b more
+    stands b more ew en nm = next h (c .left b more ew en nm)
 
     -- words that end before the statement does are no block's
-    long : (b : T.Block) (more : List ℕ) → Next b more → at + 8 + word (drop at tree) 7 ≤ length tree
-    long b more a = omega (
-      arith,
-      ap length (a .words),
-      length-drop at tree,
-      ap length (stmt-linear (a .first) (G.blockWords (a .rest) more)),
-      length-append (G.stmtWords (a .first) []) (G.blockWords (a .rest) more),
-      stmt-extent (a .first) (G.blockWords (a .rest) more),
-      ap (λ (w : List ℕ). word w 7) (a .words),
-    )
-
     pub block-short : {core′ : List ℕ} → length tree < at + 8 → Whole (Now.Broken 0) locals core′
-    block-short e = record { by = λ b more ew en nm. absurd (omega (arith, e, long b more (next b more ew en nm))); kept = c .kept; bounded = tt }
+    block-short e = record { by = λ b more ew en nm. absurd (omega (arith, e, there (stands b more ew en nm))); kept = c .kept; bounded = tt }
 
     module _ {kind place size items more-items statements more-statements rest : ℕ} (hd : Heads (drop at tree) kind place size items more-items statements more-statements rest) where
       pub block-cut : {core′ : List ℕ} → length tree < at + (8 + rest) → Whole (Now.Broken 0) locals core′
-      block-cut e = record { by = λ b more ew en nm. absurd (omega (arith, e, hd .is-rest, long b more (next b more ew en nm))); kept = c .kept; bounded = tt }
+      block-cut e = record { by = λ b more ew en nm. absurd (omega (arith, e, hd .is-rest, there (stands b more ew en nm))); kept = c .kept; bounded = tt }
 
       module _ {r : Step} {locals₁ core₁ : List ℕ} (x : Statement text gs locals l count result (drop at tree) to core r locals₁ core₁) (m : Moves l count locals r locals₁) where
-        stated : (b : T.Block) (more : List ℕ) (a : Next b more) → StmtCase gs text (stmt gs result (a .first) (scopeOf gs text locals l count)) to core r locals₁ core₁
-        stated b more a = x .by (a .first) (G.blockWords (a .rest) more) (a .words) (a .named)
+        stated : (b : T.Block) (more : List ℕ) (a : Stands b more) → StmtCase gs text (stmt gs result (a .first) (scopeOf gs text locals l count)) to core r locals₁ core₁
+        stated b more a = x .by (a .first) (G.blockWords (a .rest) more) (a .words) (named-then text (a .first) (a .rest) (a .holds .named) .0)
 
         still : (j : ℕ) → j < 4 * l₀ → word locals₁ j ≡ word locals₀ j
         still j e = m .kept j (omega (arith, e, c .seen)) ∙ c .kept j e
 
         pub block-stops : {b : Place} {core′ : List ℕ} → r ≡ To.Broken b → Whole (Now.Broken b) locals₁ core′
-        block-stops {b} {core′} d = record { by = λ t more ew en nm. go t more (next t more ew en nm); kept = still; bounded = tt }
+        block-stops {b} {core′} d = record { by = λ t more ew en nm. go t more (stands t more ew en nm); kept = still; bounded = tt }
           where
-            go : (t : T.Block) (more : List ℕ) → Next t more → block gs result t (scopeOf gs text locals₀ l₀ count₀) ≡ breaks b
-            go t more a = a .goes-on (Now.Broken b) core′ (then-stops text gs result (a .first) (a .rest) _ (subst (λ (o : Step). StmtCase gs text (stmt gs result (a .first) (scopeOf gs text locals l count)) to core o locals₁ core₁) d (stated t more a)))
+            go : (t : T.Block) (more : List ℕ) → Stands t more → block gs result t (scopeOf gs text locals₀ l₀ count₀) ≡ breaks b
+            go t more a = a .holds .goes-on (Now.Broken b) core′ (then-stops text gs result (a .first) (a .rest) _ (subst (λ (o : Step). StmtCase gs text (stmt gs result (a .first) (scopeOf gs text locals l count)) to core o locals₁ core₁) d (stated t more a)))
 
         module _ {l₁ count₁ : ℕ} (d : r ≡ To.Next l₁ count₁) where
-          done : (b : T.Block) (more : List ℕ) (a : Next b more) → Stated gs text (stmt gs result (a .first) (scopeOf gs text locals l count)) to core l₁ count₁ locals₁ core₁
+          done : (b : T.Block) (more : List ℕ) (a : Stands b more) → Stated gs text (stmt gs result (a .first) (scopeOf gs text locals l count)) to core l₁ count₁ locals₁ core₁
           done b more a = subst (λ (o : Step). StmtCase gs text (stmt gs result (a .first) (scopeOf gs text locals l count)) to core o locals₁ core₁) d (stated b more a)
 
           moved : Within l count l₁ count₁
           moved = subst (StepCase l count) d (m .within)
 
-          extent : (b : T.Block) (more : List ℕ) (a : Next b more) → rest ≡ word (G.stmtWords (a .first) (G.blockWords (a .rest) more)) 7
-          extent b more a = hd .is-rest ∙ ap (λ (w : List ℕ). word w 7) (a .words)
+          on : (b : T.Block) (more : List ℕ) → Stands b more → Left tree n more (i + 1) (at + (8 + rest)) (Rest text gs result locals₀ l₀ count₀ q core₀ b (to + (8 + rest)) l₁ count₁ locals₁ core₁)
+          on b more a = onward a rest (hd .is-rest) (record {
+            named = named-then text (a .first) (a .rest) (a .holds .named) .1;
+            goes-on = λ o core′ y. a .holds .goes-on o core′
+                (then-case text gs result (a .first) (a .rest) _ core to (to + (8 + rest)) (done b more a .value) _ (done b more a .is) (done b more a .there) (omega (arith, following a (hd .is-rest))) o core′ y);
+          })
 
-          on : (b : T.Block) (more : List ℕ) → Next b more → Left text gs result tree n locals₀ l₀ count₀ q core₀ b more (i + 1) (at + (8 + rest)) (to + (8 + rest)) l₁ count₁ locals₁ core₁
-          on b more a = record {
-            rest = a .rest;
-            words = further tree at (8 + rest) (a .words) (past-stmt (a .first) (8 + rest) (G.blockWords (a .rest) more) (omega (arith, extent b more a)));
-            many = a .many;
-            named = a .named-rest;
-            goes-on = λ o core′ y. a .goes-on o core′
-                (then-case text gs result (a .first) (a .rest) _ core to (to + (8 + rest)) (done b more a .value) _ (done b more a .is) (done b more a .there) (omega (arith, extent b more a, stmt-extent (a .first) (G.blockWords (a .rest) more))) o core′ y);
-          }
-
-          pub block-again : {types₁ starts₁ : List ℕ} → length tree ≤ 67108864 → at + (8 + rest) ≤ length tree → length locals₁ ≡ length locals → length types₁ ≡ length types → length starts₁ ≡ length starts → length core₁ ≡ length core →
+          pub block-again : {types₁ starts₁ : List ℕ} → length tree ≤ most-words → at + (8 + rest) ≤ length tree → length locals₁ ≡ length locals → length types₁ ≡ length types → length starts₁ ≡ length starts → length core₁ ≡ length core →
               Blocking text gs result tree g n p q locals₀ l₀ count₀ types₀ starts₀ core₀ (i + 1) (at + (8 + rest)) (to + (8 + rest)) l₁ count₁ locals₁ types₁ starts₁ core₁
           block-again e f el et es ec = record {
-            left = λ b more ew en nm. on b more (next b more ew en nm);
+            left = λ b more ew en nm. on b more (stands b more ew en nm);
             kept = still;
             far = omega (arith, c .far);
             apart = omega (arith, c .apart);

@@ -1,24 +1,23 @@
 -- Whether a block ends in return: the last statement that was passed says it, where none is left.
-use mathlib.Core.Path.{_≡_, refl, sym, ap, subst, _∙_}
+use mathlib.Core.Path.{_≡_, refl, sym, ap, _∙_}
 use mathlib.Core.Bool.{Bool, true, false}
-use mathlib.Core.List.{List, [], _∷_, _++_}
-use mathlib.Core.Option.{Option, none}
-use Prim.Native.Nat.{ℕ, zero, suc, _+_, _*_, _≤_, _<_}
+use mathlib.Core.List.{List, []}
+use mathlib.Core.Option.{none}
+use Prim.Native.Nat.{ℕ, _+_, _*_, _≤_, _<_}
 use native.Mathlib.Omega.{arith}
 use lib.Dec.{eqb}
-use lib.ListN.{length, drop, length-drop, length-append}
-use borrow.Author.Tests.{eq-eqb, ne-eqb}
+use lib.ListN.{length, drop}
+use borrow.Author.Tests.{ne-eqb}
 use Rattle.word.specs.Choice.{pick, both}
 use Rattle.language.specs.Tree as T
 use Rattle.language.specs.Tree.{Ty}
-use Rattle.language.specs.Rules.{Global, isReturn, endsInReturn}
+use Rattle.language.specs.Rules.{isReturn, endsInReturn}
 use Rattle.grammar.specs.Flat as G
-use Rattle.grammar.proofs.FlatLaws.{stmt-linear}
+use Rattle.rules.specs.Post.{most-places, most-words}
 use Rattle.rules.specs.Tables.{word}
 use Rattle.rules.specs.Statements.{Heads, Returns, Ends, holdsBlocks}
-use Rattle.rules.proofs.Heading.{further}
-use Rattle.rules.proofs.Extents.{stmt-extent, past-stmt}
-use Rattle.rules.proofs.Nesting.{Nest, Located, located, too-few}
+use Rattle.rules.proofs.Walking.{Left, Next, next, ended, there, onward}
+use Rattle.rules.proofs.Nesting.{Located, located, too-few}
 
 -- Statements, by their kind
 
@@ -115,20 +114,17 @@ unfoldable pub endsFrom : Bool → T.Block → Bool
 endsFrom r T.end = r
 endsFrom r (T.then s b) = endsInReturn (T.then s b)
 
-pub record EndLeft (tree : List ℕ) (n : ℕ) (b : T.Block) (more : List ℕ) (i at : ℕ) (ends : Bool) : Type 0 where
-  pub rest : T.Block
-  pub words : drop at tree ≡ G.blockWords rest more
-  pub many : n ≡ i + G.count rest
-  pub ending : endsInReturn b ≡ endsFrom ends rest
+pub record EndsAs (b : T.Block) (ends : Bool) (rest : T.Block) : Type 0 where
+  pub same : endsInReturn b ≡ endsFrom ends rest
 
 pub record Ending (tree : List ℕ) (p n i at : ℕ) (ends : Bool) : Type 0 where
-  pub left : (b : T.Block) (more : List ℕ) → drop p tree ≡ G.blockWords b more → n ≡ G.count b → EndLeft tree n b more i at ends
+  pub left : (b : T.Block) (more : List ℕ) → drop p tree ≡ G.blockWords b more → n ≡ G.count b → Left tree n more i at (EndsAs b ends)
   pub far : p ≤ at
-  pub near : at ≤ 17179869184
+  pub near : at ≤ most-places
 
-pub ending-starts : (tree : List ℕ) (p n : ℕ) → p ≤ 17179869184 → Ending tree p n 0 p false
+pub ending-starts : (tree : List ℕ) (p n : ℕ) → p ≤ most-places → Ending tree p n 0 p false
 unfolding isReturn endsFrom
-ending-starts tree p n h = record { left = λ b more ew en. record { rest = b; words = ew; many = en ∙ omega arith; ending = whole b }; far = omega arith; near = h }
+ending-starts tree p n h = record { left = λ b more ew en. record { rest = b; words = ew; many = en ∙ omega arith; holds = record { same = whole b } }; far = omega arith; near = h }
   where
     whole : (b : T.Block) → endsInReturn b ≡ endsFrom false b
     whole T.end = refl
@@ -136,65 +132,27 @@ ending-starts tree p n h = record { left = λ b more ew en. record { rest = b; w
 
 module _ {tree : List ℕ} {p n i at : ℕ} {ends : Bool} (c : Ending tree p n i at ends) where
   pub ending-done : n ≤ i → Ends n (drop p tree) ends
-  unfolding G.count endsFrom
-  ending-done h = record { by = λ b more ew en. go b more (c .left b more ew en) }
-    where
-      last : (r : T.Block) → G.count r ≡ 0 → ends ≡ endsFrom ends r
-      last T.end e = refl
-      last (T.then s b) e = absurd (omega (arith, e))
-
-      go : (b : T.Block) (more : List ℕ) → EndLeft tree n b more i at ends → ends ≡ endsInReturn b
-      go b more a = last (a .rest) (omega (arith, a .many, h)) ∙ sym (a .ending)
+  unfolding endsFrom
+  ending-done h = record { by = λ b more ew en. sym (ended h (c .left b more ew en) .same) }
 
   module _ (h : i < n) where
-    record Next (b : T.Block) (more : List ℕ) : Type 0 where
-      pub first : T.Stmt
-      pub rest : T.Block
-      pub words : drop at tree ≡ G.stmtWords first (G.blockWords rest more)
-      pub many : n ≡ i + 1 + G.count rest
-      pub ending : endsInReturn b ≡ endsInReturn (T.then first rest)
-
-    next-of : (b : T.Block) (more : List ℕ) (r : T.Block) → drop at tree ≡ G.blockWords r more → n ≡ i + G.count r → endsInReturn b ≡ endsFrom ends r → Next b more
-    unfolding G.stmtWords G.count endsFrom
-    next-of b more T.end ew en e = absurd (omega (arith, en, h))
-    next-of b more (T.then s r) ew en e = record { first = s; rest = r; words = ew; many = en ∙ omega arith; ending = e }
-
-    next : (b : T.Block) (more : List ℕ) → drop p tree ≡ G.blockWords b more → n ≡ G.count b → Next b more
-    next b more ew en = go (c .left b more ew en)
-      where
-        go : EndLeft tree n b more i at ends → Next b more
-        go a = next-of b more (a .rest) (a .words) (a .many) (a .ending)
-
-    long : (b : T.Block) (more : List ℕ) → Next b more → at + 8 + word (drop at tree) 7 ≤ length tree
-    long b more a = omega (
-      arith,
-      ap length (a .words),
-      length-drop at tree,
-      ap length (stmt-linear (a .first) (G.blockWords (a .rest) more)),
-      length-append (G.stmtWords (a .first) []) (G.blockWords (a .rest) more),
-      stmt-extent (a .first) (G.blockWords (a .rest) more),
-      ap (λ (w : List ℕ). word w 7) (a .words),
-    )
+    stands : (b : T.Block) (more : List ℕ) → drop p tree ≡ G.blockWords b more → n ≡ G.count b → Next tree n more i at (EndsAs b ends)
+    stands b more ew en = next h (c .left b more ew en)
 
     pub ending-short : {r : Bool} → length tree < at + 8 → Ends n (drop p tree) r
-    ending-short e = record { by = λ b more ew en. absurd (omega (arith, e, long b more (next b more ew en))) }
+    ending-short e = record { by = λ b more ew en. absurd (omega (arith, e, there (stands b more ew en))) }
 
     module _ {kind place size items more-items statements more-statements rest : ℕ} (hd : Heads (drop at tree) kind place size items more-items statements more-statements rest) where
       pub ending-cut : {r : Bool} → length tree < at + (8 + rest) → Ends n (drop p tree) r
-      ending-cut e = record { by = λ b more ew en. absurd (omega (arith, e, hd .is-rest, long b more (next b more ew en))) }
+      ending-cut e = record { by = λ b more ew en. absurd (omega (arith, e, hd .is-rest, there (stands b more ew en))) }
 
-      then-ends : (s : T.Stmt) (b : T.Block) (r : Bool) → r ≡ isReturn s → endsInReturn (T.then s b) ≡ endsFrom r b
+      then-ends : (s : T.Stmt) (b : T.Block) (r : Bool) → r ≡ isReturn s → endsFrom ends (T.then s b) ≡ endsFrom r b
       unfolding isReturn endsFrom
       then-ends s T.end r e = sym e
       then-ends s (T.then t b) r e = refl
 
-      pub ending-again : {r : Bool} → Returns (drop at tree) r → length tree ≤ 67108864 → at + (8 + rest) ≤ length tree → Ending tree p n (i + 1) (at + (8 + rest)) r
-      ending-again {r} x e f = record { left = λ b more ew en. on b more (next b more ew en); far = omega (arith, c .far); near = omega (arith, e, f) }
+      pub ending-again : {r : Bool} → Returns (drop at tree) r → length tree ≤ most-words → at + (8 + rest) ≤ length tree → Ending tree p n (i + 1) (at + (8 + rest)) r
+      ending-again {r} x e f = record { left = λ b more ew en. on b more (stands b more ew en); far = omega (arith, c .far); near = omega (arith, e, f) }
         where
-          on : (b : T.Block) (more : List ℕ) → Next b more → EndLeft tree n b more (i + 1) (at + (8 + rest)) r
-          on b more a = record {
-            rest = a .rest;
-            words = further tree at (8 + rest) (a .words) (past-stmt (a .first) (8 + rest) (G.blockWords (a .rest) more) (omega (arith, hd .is-rest, ap (λ (w : List ℕ). word w 7) (a .words))));
-            many = a .many;
-            ending = a .ending ∙ then-ends (a .first) (a .rest) r (x .by (a .first) (G.blockWords (a .rest) more) (a .words));
-          }
+          on : (b : T.Block) (more : List ℕ) → Next tree n more i at (EndsAs b ends) → Left tree n more (i + 1) (at + (8 + rest)) (EndsAs b r)
+          on b more a = onward a rest (hd .is-rest) (record { same = a .holds .same ∙ then-ends (a .first) (a .rest) r (x .by (a .first) (G.blockWords (a .rest) more) (a .words)) })

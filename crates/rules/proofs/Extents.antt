@@ -1,15 +1,15 @@
 -- A statement's core has as many words as its tree, and a block's as many words and statements.
 use mathlib.Core.Path.{_≡_, refl, sym, ap, _∙_}
-use mathlib.Core.List.{List, [], _∷_, _++_}
+use mathlib.Core.List.{List, []}
 use mathlib.Core.Option.{Option, none, some}
-use Prim.Native.Nat.{ℕ, zero, suc, _+_, _*_, _≤_}
+use Prim.Native.Nat.{ℕ, suc, _+_, _*_}
 use native.Mathlib.Omega.{arith}
-use lib.ListN.{length, getD, drop, length-append}
+use lib.ListN.{length, drop, length-append}
 use lib.Seq.{drop-at}
 use Rattle.language.specs.Tree.{Ty, int, bool}
 use Rattle.language.specs.Tree as T
 use Rattle.language.specs.Core as C
-use Rattle.language.specs.Rules.{Ruled, keeps, breaks, _>>=_, Global, Scope, Typed, want, leaves, gives, stmt, block}
+use Rattle.language.specs.Rules.{Global, Scope, Typed, leaves, gives, stmt, block}
 use Rattle.grammar.specs.Flat as G
 use Rattle.grammar.proofs.FlatLaws.{stmt-linear, block-linear}
 use Rattle.flat.specs.Items as I

@@ -1,14 +1,15 @@
 -- Headers in the tree, and the room that a statement leaves to what follows its header.
 use mathlib.Core.Path.{_≡_, refl, sym, ap, _∙_}
-use mathlib.Core.List.{List, [], _∷_, _++_}
-use Prim.Native.Nat.{ℕ, zero, suc, _+_, _*_, _≤_, _<_}
+use mathlib.Core.List.{List, []}
+use Prim.Native.Nat.{ℕ, _+_, _*_, _≤_}
 use native.Mathlib.Omega.{arith}
 use lib.ListN.{length, getD, drop}
 use lib.Seq.{getD-drop, drop-drop, drop-at}
 use Rattle.language.specs.Tree as T
 use Rattle.grammar.specs.Flat as G
 use Rattle.grammar.proofs.FlatLaws.{expr-linear}
-use Rattle.rules.specs.Post.{Room, HeaderRoom}
+use Rattle.language.specs.Rules.{most-locals}
+use Rattle.rules.specs.Post.{Room, HeaderRoom, most-entries}
 use Rattle.rules.specs.Statements.{Heads, BlockRoom, StmtRoom}
 use Rattle.rules.proofs.Lengths.{expr-words}
 
@@ -35,7 +36,7 @@ further tree p n e f = sym (drop-drop n p tree) ∙ (ap (drop n) e ∙ f)
 
 module _ {tree : List ℕ} {g : ℕ} {locals : List ℕ} {l count : ℕ} {types starts core : List ℕ} {p q rest : ℕ} (s : StmtRoom tree g locals l count types starts core p q rest) where
   -- k words on, in rooms that are as long
-  pub room-on : {l′ : ℕ} {types′ starts′ core′ : List ℕ} (k j i : ℕ) → k ≤ 8 + rest → j ≡ p + k → i ≡ q + k → l′ ≤ 65536 → length types′ ≡ length types → length starts′ ≡ length starts → length core′ ≡ length core →
+  pub room-on : {l′ : ℕ} {types′ starts′ core′ : List ℕ} (k j i : ℕ) → k ≤ 8 + rest → j ≡ p + k → i ≡ q + k → l′ ≤ most-entries → length types′ ≡ length types → length starts′ ≡ length starts → length core′ ≡ length core →
       Room tree g l′ types′ starts′ core′ j i
   room-on k j i h ej ei m et es ec = record {
     globals = s .all .room .globals;
@@ -52,7 +53,7 @@ module _ {tree : List ℕ} {g : ℕ} {locals : List ℕ} {l count : ℕ} {types 
   header-room = record { after = room-on 8 (p + 8) (q + 8) (omega arith) refl refl (s .all .room .locals) refl refl refl; header = omega (arith, s .all .room .for-core, s .whole) }
 
   -- a block k words on, with the locals that are then visible
-  pub block-room : {locals′ : List ℕ} {count′ : ℕ} {types′ starts′ core′ : List ℕ} (k j i : ℕ) → k ≤ 8 + rest → j ≡ p + k → i ≡ q + k → l ≤ count′ → count′ ≤ 64 → length locals′ ≡ length locals → length types′ ≡ length types → length starts′ ≡ length starts → length core′ ≡ length core →
+  pub block-room : {locals′ : List ℕ} {count′ : ℕ} {types′ starts′ core′ : List ℕ} (k j i : ℕ) → k ≤ 8 + rest → j ≡ p + k → i ≡ q + k → l ≤ count′ → count′ ≤ most-locals → length locals′ ≡ length locals → length types′ ≡ length types → length starts′ ≡ length starts → length core′ ≡ length core →
       BlockRoom tree g locals′ l count′ types′ starts′ core′ j i
   block-room k j i h ej ei a b el et es ec = record {
     room = room-on k j i h ej ei (s .all .room .locals) et es ec;

@@ -17,5 +17,6 @@ pub mod Extents
 pub mod Arms
 pub mod Testing
 pub mod Nesting
+pub mod Walking
 pub mod Blocking
 pub mod Ending

@@ -3,16 +3,16 @@ use mathlib.Core.Path.{_≡_, refl, sym, ap, subst, _∙_}
 use mathlib.Core.Bool.{Bool, true, false}
 use mathlib.Core.List.{List, [], _∷_, _++_, append-assoc}
 use mathlib.Core.Option.{Option}
-use Prim.Native.Nat.{ℕ, zero, suc, _+_, _*_, _≤_, _<_}
+use Prim.Native.Nat.{ℕ, _+_, _*_, _≤_, _<_}
 use native.Mathlib.Omega.{arith}
 use lib.Dec.{eqb}
-use lib.ListN.{length, getD, drop, length-append}
-use lib.Seq.{sets, drop-drop}
+use lib.ListN.{length, drop, length-append}
+use lib.Seq.{sets}
 use Rattle.word.specs.Choice.{pick, both}
 use Rattle.language.specs.Tree.{Place, Ty, bool}
 use Rattle.language.specs.Tree as T
 use Rattle.language.specs.Core as C
-use Rattle.language.specs.Rules.{Ruled, keeps, breaks, _>>=_, Global, Local, Scope, want, expr, stmt, block, isReturn, endsInReturn}
+use Rattle.language.specs.Rules.{Ruled, keeps, breaks, _>>=_, Global, Local, Scope, want, expr, stmt, block, isReturn, endsInReturn, most-locals}
 use Rattle.grammar.specs.Flat as G
 use Rattle.flat.specs.Items.{code}
 use Rattle.flat.specs.Statements.{flat, flats}
@@ -27,15 +27,15 @@ use Rattle.rules.specs.declared.Step.{Step}
 use Rattle.rules.specs.declared.Step.the-variants as To
 use Rattle.rules.specs.declared.Counted.{Counted}
 use Rattle.rules.specs.declared.Counted.the-variants as Now
-use Rattle.rules.specs.Post.{scopeOf, Stated, StmtCase}
+use Rattle.rules.specs.Post.{scopeOf, Stated}
 use Rattle.rules.specs.Statements.{Heads, Moves, Statement, Tested, TestCase, Conditions, Blocked, BlockCase, CountCase, Blocks, nestWords, holdsBlocks}
 use Rattle.rules.proofs.Kept.{assoc}
 use Rattle.rules.proofs.Lengths.{expr-words}
-use Rattle.rules.proofs.Stacks.{sets-append}
-use Rattle.rules.proofs.Stating.{sets-before, went, stopped, same-locals}
-use Rattle.rules.proofs.Storing.{items-words}
+use Rattle.rules.proofs.Stating.{went, stopped, same-locals}
+use Rattle.rules.proofs.Storing.{items-words, row, in-front}
 use Rattle.rules.proofs.Heading.{further, past-expr}
 use Rattle.rules.proofs.Extents.{flat-block, past-block}
+use Rattle.rules.proofs.Arms.{Truth}
 
 -- One form for `if` and `while`: of those with one block, the other is empty.
 
@@ -59,10 +59,6 @@ module _ (gs : List Global) (result : Option Ty) where
     pub named-other : NamedStmt text s → NamedBlock text other
     pub empty : eqb kind 3 ≡ true → other ≡ T.end
     pub returns : eqb kind 2 ≡ true → isReturn s ≡ both (endsInReturn body) (endsInReturn other)
-
-  abbrev Truth : Bool → Type 0
-  Truth true = Unit {0}
-  Truth false = ⊥
 
   nest-of : (text : List ℕ) (s : T.Stmt) (more : List ℕ) → holdsBlocks (word (G.stmtWords s more) 0) ≡ true → Nest text s
   unfolding stmt isReturn G.stmtWords G.count NamedStmt holdsBlocks nestOf G.declareKind _>>=_
@@ -118,12 +114,6 @@ module _ (gs : List Global) (result : Option Ty) where
   nest-of text (T.run p x xs) more h = absurd (subst Truth (sym h) tt)
 
 -- Its words
-
-row : (core : List ℕ) {core₁ core₂ : List ℕ} (i j : ℕ) (us vs : List ℕ) → core₁ ≡ sets core i us → core₂ ≡ sets core₁ j vs → j ≡ i + length us → core₂ ≡ sets core i (us ++ vs)
-row core i j us vs e f h = f ∙ (ap (λ (w : List ℕ). sets w j vs) e ∙ (ap (λ (k : ℕ). sets (sets core i us) k vs) h ∙ sets-append core i us vs))
-
-in-front : (core : List ℕ) {core₁ core₂ : List ℕ} (q i : ℕ) (h us : List ℕ) → core₁ ≡ sets core i us → core₂ ≡ sets core₁ q h → i ≡ q + length h → core₂ ≡ sets core q (h ++ us)
-in-front core q i h us e f g = f ∙ (ap (λ (w : List ℕ). sets w q h) (e ∙ ap (λ (k : ℕ). sets core k us) g) ∙ sets-before core q h us)
 
 end-of : (b : C.Block) → F.count (flats b) ≡ 0 → b ≡ C.end
 unfolding flats F.count
@@ -185,9 +175,6 @@ module _ (text : List ℕ) (gs : List Global) (locals : List ℕ) (l count : ℕ
   pub located : (st : T.Stmt) (more : List ℕ) → drop p tree ≡ G.stmtWords st more → Located st more
   located st more ew = go (nest-of gs result text st more (ap holdsBlocks (sym (hd .is-kind ∙ ap (λ (w : List ℕ). word w 0) ew)) ∙ hb))
     where
-      place : (v : Nest gs result text st) (i : ℕ) {x : ℕ} → x ≡ word (drop p tree) i → x ≡ word (G.stmtWords st more) i
-      place v i e = e ∙ ap (λ (w : List ℕ). word w i) ew
-
       at-words : (v : Nest gs result text st) → drop (p + 8) tree ≡ G.exprWords (v .test) (G.blockWords (v .body) (G.blockWords (v .other) more))
       at-words v = further tree p 8 (ew ∙ v .words more) refl
 
@@ -335,5 +322,5 @@ module _ {text : List ℕ} {gs : List Global} {locals : List ℕ} {l count : ℕ
         go a b = record { kept = both-kept; within = record { visible = omega arith; counted = omega (arith, a .0, b .0); among = λ h. omega (arith, h, a .0, b .0); few = λ h. b .1 } }
 
 pub counted-so : {text : List ℕ} {gs : List Global} {locals : List ℕ} {l count : ℕ} {result : Option Ty} {n : ℕ} {ws : List ℕ} {q : ℕ} {core : List ℕ} {r : Counted} {locals₁ core₁ : List ℕ} {c : ℕ} → Blocks text gs locals l count result n ws q core r locals₁ core₁ → r ≡ Now.Count c →
-    (count ≤ c) × (c ≤ 64)
+    (count ≤ c) × (c ≤ most-locals)
 counted-so {count = count} y f = subst (CountCase count) f (y .bounded)

@@ -3,22 +3,21 @@ use mathlib.Core.Path.{_≡_, refl, sym, ap, subst, _∙_}
 use mathlib.Core.Bool.{Bool, true, false}
 use mathlib.Core.List.{List, [], _∷_, _++_, append-nil}
 use mathlib.Core.Option.{Option, none, some}
-use Prim.Native.Nat.{ℕ, zero, suc, _+_, _-_, _*_, _≤_, _<_, _^_}
+use Prim.Native.Nat.{ℕ, _+_, _-_, _*_, _≤_, _<_, _^_}
 use native.Mathlib.Omega.{arith}
 use lib.ListN.{length, getD, drop}
 use lib.Seq.{sets, getD-drop, drop-drop, drop-at}
 use borrow.Author.Tests.{eq-eqb, ne-eqb, le-leb}
-use Rattle.word.specs.Choice.{pick, both}
-use Rattle.language.specs.Tree.{Place, Ty, int, bool}
+use Rattle.language.specs.Tree.{Place, Ty, int}
 use Rattle.language.specs.Tree as T
 use Rattle.language.specs.Core as C
 use Rattle.language.specs.Rules.{Ruled, keeps, breaks, _>>=_, found, Global, Thing, anArray, aFunction, Local, Scope, Signature, Typed, globalOf, isFunction, andThen, functionOf, fit, exprs, stmt}
 use Rattle.grammar.specs.Flat as G
 use Rattle.grammar.proofs.FlatLaws.{args-linear}
-use Rattle.flat.specs.Items.{code, codes}
+use Rattle.flat.specs.Items.{codes}
 use Rattle.flat.specs.Statements.{flat}
 use Rattle.flat.specs.Words.{itemsWords, stmtWords, restLength}
-use Rattle.rules.specs.Tables.{word, part, typeOf, resultOf, sameTypes, localsIn, globalAt, globalsIn, thingAt}
+use Rattle.rules.specs.Tables.{word, part, typeOf, sameTypes, localsIn, globalAt, globalsIn, thingAt}
 use Rattle.rules.specs.Scan.{Operand, Node, Scanned, sole, uppermost, firstStart, callNode, scan}
 use Rattle.rules.specs.Named.{NamedArgs}
 use Rattle.rules.specs.declared.Out.{Out}
@@ -30,11 +29,11 @@ use Rattle.rules.specs.Statements.{droppedNode, Runs}
 use Rattle.rules.proofs.Sizes.{argsOf, typesOf, sizedAll}
 use Rattle.rules.proofs.Lengths.{codes-length}
 use Rattle.rules.proofs.Lengths as N
-use Rattle.rules.proofs.Expressions.{afters, argWords, afters-words, afters-length, afters-types, args-words, fit-is, scan-args}
+use Rattle.rules.proofs.Expressions.{afters, afters-words, afters-length, afters-types, args-words, fit-is, scan-args}
 use Rattle.rules.proofs.Elaborating.{Held, held, unheld}
 use Rattle.rules.proofs.Making.{entry-global, signature}
 use Rattle.rules.proofs.Stating.{went, stopped, int-type}
-use Rattle.rules.proofs.Storing.{two-rows}
+use Rattle.rules.proofs.Storing.{Found, two-rows}
 
 -- A call whose result is dropped, in words
 
@@ -53,10 +52,6 @@ module _ {text tree ws : List ℕ} {count r : ℕ} (p a n : ℕ) (os : List Oper
     drops d x q = q ∙ rw (int-type, f .is, entry-global text tree ws r z, ← e, ← g, ne-eqb k 0 d, x) refl
 
 -- Its own rules
-
-abbrev Found : Option Node → Type 0
-Found none = ⊥
-Found (some n) = Unit {0}
 
 abbrev given : Node → Option Node → Node
 given d none = d

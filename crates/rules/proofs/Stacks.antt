@@ -66,7 +66,7 @@ sets-append l i [] b = ap (λ (k : ℕ). sets l k b) (add-zero i)
 sets-append l i (x ∷ a) b = ap (λ (k : ℕ). sets (sets l i (x ∷ a)) k b) (add-suc i (length a) ∙ sym (suc-add i (length a))) ∙ sets-append (set l i x) (suc i) a b
 
 -- a store before a run of stores, and one inside it
-set-before : (l : List ℕ) (p q v : ℕ) (c : List ℕ) → q < p → set (sets l p c) q v ≡ sets (set l q v) p c
+pub set-before : (l : List ℕ) (p q v : ℕ) (c : List ℕ) → q < p → set (sets l p c) q v ≡ sets (set l q v) p c
 set-before l p q v [] h = refl
 set-before l p q v (x ∷ c) h = set-before (set l p x) (suc p) q v c (omega (arith, h)) ∙ ap (λ (w : List ℕ). sets w (suc p) c) (set-comm l p q x v (λ (e : p ≡ q). omega (arith, e, h)))
 

@@ -29,13 +29,9 @@ use Rattle.rules.proofs.Kept.{All}
 use Rattle.rules.proofs.Sizes.{sized}
 use Rattle.rules.proofs.Lengths.{expr-words, code-length}
 use Rattle.rules.proofs.Making.{entry-local, entry-global}
-use Rattle.rules.proofs.Stacks.{get-before, get-inside}
+use Rattle.rules.proofs.Stacks.{set-before, get-before, get-inside}
 
 -- what is written in the gap that was left before
-set-before : (l : List ℕ) (p q v : ℕ) (c : List ℕ) → q < p → set (sets l p c) q v ≡ sets (set l q v) p c
-set-before l p q v [] h = refl
-set-before l p q v (x ∷ c) h = set-before (set l p x) (suc p) q v c (omega (arith, h)) ∙ ap (λ (w : List ℕ). sets w (suc p) c) (set-comm l p q x v (λ (e : p ≡ q). omega (arith, e, h)))
-
 pub sets-before : (l : List ℕ) (i : ℕ) (h c : List ℕ) → sets (sets l (i + length h) c) i h ≡ sets l i (h ++ c)
 sets-before l i [] c = ap (λ (k : ℕ). sets l k c) (add-zero i)
 sets-before l i (x ∷ h) c =

@@ -3,11 +3,11 @@ use mathlib.Core.Path.{_≡_, refl, sym, ap, subst, _∙_}
 use mathlib.Core.Bool.{Bool, true, false}
 use mathlib.Core.List.{List, [], _∷_, _++_}
 use mathlib.Core.Option.{Option, none, some}
-use Prim.Native.Nat.{ℕ, zero, suc, _+_, _*_, _≤_, _<_}
+use Prim.Native.Nat.{ℕ, _+_, _*_, _<_}
 use native.Mathlib.Omega.{arith}
 use lib.ListN.{length, drop}
 use lib.Seq.{sets}
-use Rattle.language.specs.Tree.{Place, Ty, int, bool}
+use Rattle.language.specs.Tree.{Place, Ty, int}
 use Rattle.language.specs.Tree as T
 use Rattle.language.specs.Core.{Array}
 use Rattle.language.specs.Core as C
@@ -35,7 +35,7 @@ use Rattle.rules.proofs.Heading.{past-expr}
 
 -- Its own rules
 
-abbrev Found : Option Node → Type 0
+abbrev pub Found : Option Node → Type 0
 Found none = ⊥
 Found (some n) = Unit {0}
 
@@ -125,11 +125,15 @@ unfolding itemsWords
 items-words [] more = omega arith
 items-words (i ∷ is) more = kind-words (i .kind) (i .charge) (itemsWords is more) ∙ omega (arith, items-words is more)
 
--- a header before two rows, the second written after the first
+-- words after words, and a header in front
+pub row : (core : List ℕ) {core₁ core₂ : List ℕ} (i j : ℕ) (us vs : List ℕ) → core₁ ≡ sets core i us → core₂ ≡ sets core₁ j vs → j ≡ i + length us → core₂ ≡ sets core i (us ++ vs)
+row core i j us vs e f h = f ∙ (ap (λ (w : List ℕ). sets w j vs) e ∙ (ap (λ (k : ℕ). sets (sets core i us) k vs) h ∙ sets-append core i us vs))
+
+pub in-front : (core : List ℕ) {core₁ core₂ : List ℕ} (q i : ℕ) (h us : List ℕ) → core₁ ≡ sets core i us → core₂ ≡ sets core₁ q h → i ≡ q + length h → core₂ ≡ sets core q (h ++ us)
+in-front core q i h us e f g = f ∙ (ap (λ (w : List ℕ). sets w q h) (e ∙ ap (λ (k : ℕ). sets core k us) g) ∙ sets-before core q h us)
+
 pub two-rows : (core : List ℕ) {core₁ core₂ core₃ : List ℕ} (q n : ℕ) (h us vs : List ℕ) → core₁ ≡ sets core (q + length h) us → core₂ ≡ sets core₁ (q + length h + n) vs → core₃ ≡ sets core₂ q h → length us ≡ n → core₃ ≡ sets core q (h ++ (us ++ vs))
-two-rows core q n h us vs e f g m =
-    g ∙ (ap (λ (w : List ℕ). sets w q h) (f ∙ (ap (λ (w : List ℕ). sets w (q + length h + n) vs) e ∙ (ap (λ (k : ℕ). sets (sets core (q + length h) us) (q + length h + k) vs) (sym m) ∙ sets-append core (q + length h) us vs))) ∙
-    sets-before core q h (us ++ vs))
+two-rows core q n h us vs e f g m = in-front core q (q + length h) h (us ++ vs) (row core (q + length h) (q + length h + n) us vs e f (ap (λ (k : ℕ). q + length h + k) (sym m))) g refl
 
 module _ (text : List ℕ) (gs : List Global) (locals : List ℕ) (l count : ℕ) (result : Option Ty) (at size : ℕ) {n : ℕ} (m rest : ℕ) {ws : List ℕ} (q : ℕ) {core core₁ : List ℕ} {r₁ : Given}
     (x : Elaborates text gs (localsIn text locals l) n ws (q + 8) core r₁ core₁) where

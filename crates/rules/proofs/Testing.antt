@@ -1,14 +1,13 @@
 -- A condition: what its expression gives, if that is a bool.
-use mathlib.Core.Path.{_≡_, refl, sym, ap, subst, _∙_}
+use mathlib.Core.Path.{_≡_, refl, ap, subst, _∙_}
 use mathlib.Core.Bool.{Bool, true, false}
 use mathlib.Core.List.{List, [], _∷_}
-use Prim.Native.Nat.{ℕ, _+_}
+use Prim.Native.Nat.{ℕ}
 use lib.Seq.{sets}
-use borrow.Author.Tests.{eq-eqb, ne-eqb}
+use borrow.Author.Tests.{ne-eqb}
 use Rattle.language.specs.Tree.{Place, Ty, bool}
 use Rattle.language.specs.Tree as T
-use Rattle.language.specs.Core as C
-use Rattle.language.specs.Rules.{Ruled, keeps, breaks, _>>=_, sameTy, Global, Local, want, expr}
+use Rattle.language.specs.Rules.{breaks, _>>=_, sameTy, Global, Local, want, expr}
 use Rattle.rules.specs.Tables.{typeOf}
 use Rattle.rules.specs.declared.Given.{Given}
 use Rattle.rules.specs.declared.Given.the-variants as Is

@@ -1,9 +1,9 @@
 -- What statements and blocks promise: each is the definition of document 01 §4 of whatever statement or block the words are, and the locals that were
 -- visible before it stay.
 use mathlib.Core.Path.{_≡_}
-use mathlib.Core.Bool.{Bool, true, false}
+use mathlib.Core.Bool.{Bool, true}
 use mathlib.Core.List.{List, [], _∷_}
-use mathlib.Core.Option.{Option, some}
+use mathlib.Core.Option.{Option}
 use Prim.Native.Nat.{ℕ, _+_, _*_, _≤_, _<_}
 use lib.Dec.{eqb}
 use lib.ListN.{length}
@@ -12,7 +12,7 @@ use Rattle.word.specs.Choice.{pick}
 use Rattle.language.specs.Tree.{Ty, int, bool}
 use Rattle.language.specs.Tree as T
 use Rattle.language.specs.Core as C
-use Rattle.language.specs.Rules.{Ruled, keeps, breaks, Global, Scope, globalOf, isFunction, andThen, _>>=_, Local, most-locals, want, expr, stmt, block, isReturn, endsInReturn}
+use Rattle.language.specs.Rules.{Ruled, keeps, breaks, Global, globalOf, isFunction, andThen, _>>=_, Local, most-locals, want, expr, stmt, block, isReturn, endsInReturn}
 use Rattle.grammar.specs.Flat as G
 use Rattle.flat.specs.Items.{code}
 use Rattle.flat.specs.Statements.{flats}
@@ -20,7 +20,7 @@ use Rattle.flat.specs.Words.{itemsWords, blockWords, blockLength, count}
 use Rattle.rules.specs.Tables.{word, part}
 use Rattle.rules.specs.Named.{NamedExpr, NamedArgs, NamedStmt, NamedBlock}
 use Rattle.rules.specs.Scan.{Operand, Node, callNode}
-use Rattle.rules.specs.Post.{Room, HeaderRoom, scopeOf, StmtCase, most-places}
+use Rattle.rules.specs.Post.{Room, scopeOf, StmtCase, most-places}
 use Rattle.rules.specs.declared.Given.{Given}
 use Rattle.rules.specs.declared.Given.the-variants as Is
 use Rattle.rules.specs.declared.Step.{Step}

@@ -5,3 +5,4 @@ pub mod Blocks
 pub mod EndToEnd
 pub mod Answering
 pub mod Running
+pub mod Compiling

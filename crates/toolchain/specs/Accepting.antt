@@ -15,6 +15,11 @@ use Rattle.toolchain.specs.Interpretation.{Lent, Interprets}
 use Rattle.toolchain.specs.declared.accept.Accepting.{Accepting}
 use Rattle.toolchain.specs.declared.accept.Accepting.the-variants.{Program as Words, Refused}
 use Rattle.toolchain.specs.declared.interpret.Interpreted.{Interpreted}
+use Rattle.toolchain.specs.declared.compile.Compiled.{Compiled}
+use Rattle.toolchain.specs.declared.compile.Compiled.the-variants.{Image}
+use Rattle.toolchain.specs.declared.compile.Compiled.the-variants as C
+use Rattle.compiler.specs.declared.Compiled as P
+use Rattle.compiler.specs.declared.Compiled.the-variants as P′
 
 -- the text's program, whose n words stand first in the core's buffer
 pub record Made (text : List ℕ) (n : ℕ) (core : List ℕ) : Type 0 where
@@ -39,3 +44,8 @@ pub record Elaborated (text tree : List ℕ) (words : ℕ) (r : Accepting) (core
 -- the run of an accepted text's program, whatever text that is
 pub record RunsWords (core input : List ℕ) (fuel room : ℕ) (before after : Lent) (r : Interpreted) : Type 0 where
   pub by : (text : List ℕ) (w : Work) (n : ℕ) → Enough w → Made text n core → Interprets text input fuel room w before after r
+
+-- what the compiler says, as an answer
+abbrev pub toldOf : P.Compiled → Compiled
+toldOf (P′.Image n) = Image n
+toldOf P′.TooLong = C.Refused 3 0

@@ -22,7 +22,7 @@ same-length-2 : tie.Need-same-length-2
 same-length-2 c = search needs
 
 returns : tie.Need-returns
-returns c = for-words (c .before .before .before .before .before .before .before .before .before .before .before .before .before .before .pre .0) (too-long (c .before .before .before .before .before .before .before .before .word .ensures) (c .before .before .before .before .before .layout .ensures) (c .if1 .taken))
+returns c = (for-words (c .before .before .before .before .before .before .before .before .before .before .before .before .before .before .pre .0) (too-long (c .before .before .before .before .before .before .before .before .word .ensures) (c .before .before .before .before .before .layout .ensures) (c .if1 .taken)), tt)
 
 mul-if2 : tie.Need-mul-if2
 mul-if2 c = search needs
@@ -34,7 +34,7 @@ same-length-4 : tie.Need-same-length-4
 same-length-4 c = search needs
 
 returns-2 : tie.Need-returns-2
-returns-2 c = for-words (c .before .before .before .before .before .before .before .before .before .before .before .before .before .before .before .pre .0) (no-room (c .before .before .before .before .before .before .before .before .before .word .ensures) (c .before .before .before .before .before .before .layout .ensures) (omega (arith, c .before .if1 .left)) (c .if2 .taken))
+returns-2 c = (for-words (c .before .before .before .before .before .before .before .before .before .before .before .before .before .before .before .pre .0) (no-room (c .before .before .before .before .before .before .before .before .before .word .ensures) (c .before .before .before .before .before .before .layout .ensures) (omega (arith, c .before .if1 .left)) (c .if2 .taken)), tt)
 
 bodies-requires : tie.Need-bodies-requires
 bodies-requires c κs = (omega (arith, c .before .before .before .before .before .before .before .before .before .before .before .before .before .before .before .before .before .before .pre .1 .0, c .before .before .before .before .before .before .before .before .before .before .before .before .word .ensures), omega (arith, c .before .before .before .before .if1 .left))
@@ -70,7 +70,7 @@ same-length-8 : tie.Need-same-length-8
 same-length-8 c = search needs
 
 returns-3 : tie.Need-returns-3
-returns-3 c = for-words (c .before .before .before .before .before .before .before .before .before .before .before .before .before .before .before .before .before .before .before .before .before .before .before .before .before .before .before .before .before .before .before .before .before .before .before .before .before .before .before .pre .0) (compiled (c .before .before .before .before .before .before .before .before .before .before .before .before .before .before .before .before .before .before .before .before .before .before .before .before .before .before .before .before .before .before .before .before .before .word .ensures) (c .before .before .before .before .before .before .before .before .before .before .before .before .before .before .before .before .before .before .before .before .before .before .before .before .before .before .before .before .before .before .layout .ensures) (omega (arith, c .before .before .before .before .before .before .before .before .before .before .before .before .before .before .before .before .before .before .before .before .before .before .before .before .before .if1 .left)) (omega (arith, c .before .before .before .before .before .before .before .before .before .before .before .before .before .before .before .before .before .before .before .before .before .before .before .before .before .before .before .before .before .before .before .before .before .before .before .before .before .before .before .pre .1 .1 .0, c .before .before .before .before .before .before .before .before .before .before .before .before .before .before .before .before .before .before .before .before .before .before .before .before .before .before .before .before .before .before .before .before .before .word .ensures, c .before .before .before .before .before .before .before .before .before .before .before .before .before .before .before .before .before .before .before .before .before .before .before .before .before .before .before .before .before .before .layout .kept)) (c .before .before .before .before .before .before .before .before .before .before .before .before .before .before .before .before .before .before .before .before .before .before .before .before .before .before .before .before .before .before .before .before .before .before .before .before .before .before .before .pre .1 .1 .1) (c .before .before .before .before .before .before .before .before .before .before .word2 .ensures) (c .before .before .before .before .before .before .before .before .before .entry-of .ensures .0) (c .before .before .before .before .before .before .before .before .before .before .before .before .before .before .before .before .before .before .before .before .bodies .ensures .0) (c .before .before .before .before .before .before .before .before .before .before .before .before .before .before .traps .ensures .0) (c .before .before .before .before .before .before .before .starting .ensures .0) (c .before .before .bytes .ensures))
+returns-3 c = (for-words (c .before .before .before .before .before .before .before .before .before .before .before .before .before .before .before .before .before .before .before .before .before .before .before .before .before .before .before .before .before .before .before .before .before .before .before .before .before .before .before .pre .0) (compiled (c .before .before .before .before .before .before .before .before .before .before .before .before .before .before .before .before .before .before .before .before .before .before .before .before .before .before .before .before .before .before .before .before .before .word .ensures) (c .before .before .before .before .before .before .before .before .before .before .before .before .before .before .before .before .before .before .before .before .before .before .before .before .before .before .before .before .before .before .layout .ensures) (omega (arith, c .before .before .before .before .before .before .before .before .before .before .before .before .before .before .before .before .before .before .before .before .before .before .before .before .before .if1 .left)) (omega (arith, c .before .before .before .before .before .before .before .before .before .before .before .before .before .before .before .before .before .before .before .before .before .before .before .before .before .before .before .before .before .before .before .before .before .before .before .before .before .before .before .pre .1 .1 .0, c .before .before .before .before .before .before .before .before .before .before .before .before .before .before .before .before .before .before .before .before .before .before .before .before .before .before .before .before .before .before .before .before .before .word .ensures, c .before .before .before .before .before .before .before .before .before .before .before .before .before .before .before .before .before .before .before .before .before .before .before .before .before .before .before .before .before .before .layout .kept)) (c .before .before .before .before .before .before .before .before .before .before .before .before .before .before .before .before .before .before .before .before .before .before .before .before .before .before .before .before .before .before .before .before .before .before .before .before .before .before .before .pre .1 .1 .1) (c .before .before .before .before .before .before .before .before .before .before .word2 .ensures) (c .before .before .before .before .before .before .before .before .before .entry-of .ensures .0) (c .before .before .before .before .before .before .before .before .before .before .before .before .before .before .before .before .before .before .before .before .bodies .ensures .0) (c .before .before .before .before .before .before .before .before .before .before .before .before .before .before .traps .ensures .0) (c .before .before .before .before .before .before .before .starting .ensures .0) (c .before .before .bytes .ensures)), omega (arith, c .before .before .before .before .before .before .before .before .before .before .before .before .before .before .before .before .before .before .before .before .before .before .before .before .before .if1 .left))
 
 pub compile-spec : {M : Type 1} → statement M
 compile-spec = tie.close (tie.spec word-requires cast-n layout-requires same-length same-length-2 returns mul-if2 same-length-3 same-length-4 returns-2 bodies-requires traps-requires word-requires-2 entry-of-requires starting-requires bytes-requires mul-t18 same-length-5 same-length-6 same-length-7 same-length-8 returns-3)
