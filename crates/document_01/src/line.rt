@@ -47,21 +47,6 @@ pub fn number(line: &[u8], from: usize) -> Read {
     Read { value, next: i }
 }
 
-// Where the line ends.
-pub fn line_end(text: &[u8], from: usize) -> usize
-    requires { ⌜ from ≤ length (now text) ⌝ }
-    ensures { λ r. ⌜ (from ≤ r) × (r ≤ length (now (text .entry))) ⌝ }
-{
-    let mut i = from;
-    while i < text.len() {
-        if text[i] == b'\n' {
-            return i;
-        }
-        i += 1;
-    }
-    i
-}
-
 // A number, or the most that there is.
 pub fn at_most(n: u64, most: usize) -> usize
     ensures { λ r. ⌜ r ≤ most ⌝ }
@@ -69,8 +54,21 @@ pub fn at_most(n: u64, most: usize) -> usize
     if n < most as u64 { n as usize } else { most }
 }
 
+// A length, one less if the bit is set that has this worth.
+pub fn shortened(n: usize, bits: u64, worth: u64) -> usize
+    requires { ⌜ 0 < worth ⌝ }
+    ensures { λ r. ⌜ r ≤ n ⌝ }
+{
+    if bits / worth % 2 == 1 {
+        if 0 < n {
+            return n - 1;
+        }
+    }
+    n
+}
+
 // The byte put there, if there is room, and where the next goes.
-fn put(text: &mut [u8], at: usize, b: u8) -> usize {
+pub fn put(text: &mut [u8], at: usize, b: u8) -> usize {
     if at < text.len() {
         text[at] = b;
         return at + 1;

@@ -1,128 +1,13 @@
 // Document 01's vectors, and further texts: what the lines of standard input ask, it answers a line each. `tests/document_01` has the lines' form.
-ghost use Prim.Native.Nat.{_<_, _≤_, _^_};
-ghost use lib.ListN.{length};
-use grammar::Parsed;
-use libc::STDOUT_FILENO;
+use crate::running::Asked;
+use crate::running::question;
+use crate::say::say;
 
 mod line; // a line: numbers, and the text that it holds
-
-fn say(text: &[u8]) {
-    io::write_all(STDOUT_FILENO, text);
-}
-
-fn number(n: usize) {
-    io::print_decimal(STDOUT_FILENO, n as u64);
-}
-
-fn hex(n: u64, width: usize) {
-    io::print_hex(STDOUT_FILENO, n, width);
-}
-
-fn wide(n: u32) -> u64
-    ensures { λ r. ⌜ r < 2 ^ 32 ⌝ }
-{
-    n as u64
-}
-
-// One word more in a sum that tells in which order they came.
-fn mixed(s: u64, w: u32) -> u64 {
-    (s % 4294967296 * 31 + wide(w)) % 4294967296
-}
-
-fn sum(words: &[u32], count: usize) -> u64 {
-    let mut s: u64 = 0;
-    let mut i: usize = 0;
-    while i < count {
-        if i < words.len() {
-            s = mixed(s, words[i]);
-        }
-        i += 1;
-    }
-    s
-}
-
-fn say_words(words: &[u32], count: usize) {
-    let mut i: usize = 0;
-    while i < count {
-        if i < words.len() {
-            say(b" ");
-            hex(wide(words[i]), 1);
-        }
-        i += 1;
-    }
-}
-
-// What was answered, and the tree: whole, or how many words it has and their sum.
-fn answer(p: Parsed, tree: &[u32], whole: bool) {
-    match p {
-        Parsed::Tree(items, words) => {
-            say(b"tree of ");
-            number(items);
-            if whole {
-                say_words(tree, words);
-            } else {
-                say(b" words ");
-                number(words);
-                say(b" sum ");
-                hex(sum(tree, words), 8);
-            }
-            say(b"\n")
-        }
-        Parsed::Unreadable(at) => {
-            say(b"unreadable at ");
-            number(at);
-            say(b"\n")
-        }
-        Parsed::NoRoom => say(b"no room\n"),
-    }
-}
-
-// The first bytes of a text, read.
-fn read_first(n: usize, text: &[u8], room: &mut [u32], tree: &mut [u32], whole: bool) {
-    let size = line::at_most(n as u64, text.len());
-    let p = grammar::parse(&text[..size], room, tree);
-    answer(p, tree, whole)
-}
-
-// A text, read.
-fn read(line: &[u8], text: &mut [u8], room: &mut [u32], tree: &mut [u32], whole: bool) {
-    let n = line::plain(line, 2, text);
-    read_first(n, text, room, tree, whole)
-}
-
-// Every beginning of a text, from that of no byte to the whole.
-fn read_beginnings(line: &[u8], text: &mut [u8], room: &mut [u32], tree: &mut [u32]) {
-    let n = line::plain(line, 2, text);
-    let mut i: usize = 0;
-    while i < n {
-        read_first(i, text, room, tree, false);
-        i += 1;
-    }
-    read_first(n, text, room, tree, false)
-}
-
-// How many words of room are lent for tokens and for the tree, then a text.
-fn read_with(line: &[u8], text: &mut [u8], room: &mut [u32], tree: &mut [u32]) {
-    let r = line::number(line, 2);
-    let t = line::number(line, r.next);
-    let n = line::plain(line, t.next, text);
-    let rs = line::at_most(r.value, room.len());
-    let ts = line::at_most(t.value, tree.len());
-    read_first(n, text, &mut room[..rs], &mut tree[..ts], false)
-}
-
-// How many times, then a text: read so often, and answered once.
-fn read_times(line: &[u8], text: &mut [u8], room: &mut [u32], tree: &mut [u32]) {
-    let times = line::number(line, 2);
-    let n = line::plain(line, times.next, text);
-    let size = line::at_most(n as u64, text.len());
-    let mut i: u64 = 1;
-    while i < times.value {
-        grammar::parse(&text[..size], room, tree);
-        i += 1;
-    }
-    read_first(n, text, room, tree, false)
-}
+mod say; // what is said
+mod reading; // texts, read
+mod checking; // texts, checked
+mod running; // texts, interpreted
 
 fn title(line: &[u8]) {
     if 0 < line.len() {
@@ -131,37 +16,183 @@ fn title(line: &[u8]) {
     say(b"\n")
 }
 
-// A line: `"` and a title, `r` and a text, `w` and a text whose tree is said word by word, `b` and a text of which every beginning is read,
-// `l` and what is lent and a text, `m` and how many times and a text. Any other is passed over.
-fn one_line(line: &[u8], text: &mut [u8], room: &mut [u32], tree: &mut [u32]) {
+// A run of a text on a block: `i` with the fuel that is asked, `u` with every fuel up to it. The bytes are the block's and then the text's.
+fn run_bytes(
+    kind: u8,
+    q: Asked,
+    n: usize,
+    bytes: &[u8],
+    arrays: &mut [u32],
+    log: &mut [u32],
+    tokens: &mut [u32],
+    tree: &mut [u32],
+    starts: &mut [u32],
+    core: &mut [u32],
+) {
+    let size = line::at_most(n as u64, bytes.len());
+    let k = line::at_most(q.block, size);
+    running::run_asked(
+        kind == b'u',
+        q,
+        &bytes[..k],
+        &bytes[k..size],
+        arrays,
+        log,
+        tokens,
+        tree,
+        starts,
+        core,
+    )
+}
+
+// A line that asks for no run: `"` and a title, `r` and a text, `w` and a text whose tree is said word by word, `b` and a text of which every beginning is
+// read, `l` and what is lent and a text, `m` and how many times and a text, `c` and a text that is checked. Any other is passed over.
+fn plain_line(
+    line: &[u8],
+    text: &mut [u8],
+    tokens: &mut [u32],
+    tree: &mut [u32],
+    starts: &mut [u32],
+    core: &mut [u32],
+) {
     match line::byte(line, 0) {
         b'"' => title(line),
-        b'r' => read(line, text, room, tree, false),
-        b'w' => read(line, text, room, tree, true),
-        b'b' => read_beginnings(line, text, room, tree),
-        b'l' => read_with(line, text, room, tree),
-        b'm' => read_times(line, text, room, tree),
+        b'r' => reading::read(line, text, tokens, tree, false),
+        b'w' => reading::read(line, text, tokens, tree, true),
+        b'b' => reading::read_beginnings(line, text, tokens, tree),
+        b'l' => reading::read_with(line, text, tokens, tree),
+        b'm' => reading::read_times(line, text, tokens, tree),
+        b'c' => checking::check_text(line, text, tokens, tree, starts, core),
         _ => (),
     }
 }
 
-// All lines, one after the other.
-fn all_lines(lines: &[u8], text: &mut [u8], room: &mut [u32], tree: &mut [u32]) {
+// Whether a line asks for a run.
+fn is_run(kind: u8) -> bool {
+    match kind {
+        b'i' => true,
+        b'u' => true,
+        _ => false,
+    }
+}
+
+// A line.
+fn one_line(
+    line: &[u8],
+    text: &mut [u8],
+    arrays: &mut [u32],
+    log: &mut [u32],
+    tokens: &mut [u32],
+    tree: &mut [u32],
+    starts: &mut [u32],
+    core: &mut [u32],
+) {
+    let kind = line::byte(line, 0);
+    if is_run(kind) {
+        let q = question(line);
+        let n = line::plain(line, q.next, text);
+        run_bytes(kind, q, n, text, arrays, log, tokens, tree, starts, core)
+    } else {
+        plain_line(line, text, tokens, tree, starts, core)
+    }
+}
+
+// The same, with working room that is there no longer than this.
+fn with_work(line: &[u8], text: &mut [u8], arrays: &mut [u32], log: &mut [u32]) {
+    let mut tokens = token_room();
+    let mut tree = tree_room();
+    let mut starts = starts_room();
+    let mut core = core_room();
+    one_line(
+        line,
+        text,
+        arrays,
+        log,
+        &mut tokens,
+        &mut tree,
+        &mut starts,
+        &mut core,
+    )
+}
+
+// All lines of a window, the first of which has begun before it; how many bytes of the last are there.
+fn all_lines(
+    window: &[u8],
+    line: &mut [u8],
+    start: usize,
+    text: &mut [u8],
+    arrays: &mut [u32],
+    log: &mut [u32],
+) -> usize {
     let mut i: usize = 0;
-    while i < lines.len() {
-        let end = line::line_end(lines, i);
-        one_line(&lines[i..end], text, room, tree);
-        i = end + 1;
+    let mut at = start;
+    while i < window.len() {
+        let b = window[i];
+        i += 1;
+        if b == b'\n' {
+            let n = line::at_most(at as u64, line.len());
+            with_work(&line[..n], text, arrays, log);
+            at = 0;
+        } else {
+            at = line::put(line, at, b);
+        }
+    }
+    at
+}
+
+// The lines of a window's first bytes.
+fn some_lines(
+    n: usize,
+    window: &[u8],
+    line: &mut [u8],
+    start: usize,
+    text: &mut [u8],
+    arrays: &mut [u32],
+    log: &mut [u32],
+) -> usize {
+    let size = line::at_most(n as u64, window.len());
+    all_lines(&window[..size], line, start, text, arrays, log)
+}
+
+// All of standard input, a window at a time, and not without end.
+fn all_windows(
+    window: &mut [u8],
+    line: &mut [u8],
+    text: &mut [u8],
+    arrays: &mut [u32],
+    log: &mut [u32],
+) {
+    let mut at: usize = 0;
+    let mut w: usize = 0;
+    while w < 4096 {
+        let n = io::read_full(0, window);
+        if n == 0 {
+            return;
+        }
+        at = some_lines(n, window, line, at, text, arrays, log);
+        w += 1;
     }
 }
 
 // The buffers, each made by a function, so that a proof has its length and not its elements.
-fn lines_room() -> [u8; 262144] {
+fn window_room() -> [u8; 65536] {
+    [0; 65536]
+}
+
+fn line_room() -> [u8; 262144] {
     [0; 262144]
 }
 
-fn text_room() -> [u8; 69632] {
-    [0; 69632]
+fn text_room() -> [u8; 135168] {
+    [0; 135168]
+}
+
+fn arrays_room() -> [u32; 16400] {
+    [0; 16400]
+}
+
+fn log_room() -> [u32; 1024] {
+    [0; 1024]
 }
 
 fn token_room() -> [u32; 196608] {
@@ -172,11 +203,19 @@ fn tree_room() -> [u32; 524288] {
     [0; 524288]
 }
 
+fn starts_room() -> [u32; 131072] {
+    [0; 131072]
+}
+
+fn core_room() -> [u32; 525315] {
+    [0; 525315]
+}
+
 fn main() {
-    let mut lines = lines_room();
+    let mut window = window_room();
+    let mut line = line_room();
     let mut text = text_room();
-    let mut room = token_room();
-    let mut tree = tree_room();
-    let n = io::read_full(0, &mut lines);
-    all_lines(&lines[..n], &mut text, &mut room, &mut tree)
+    let mut arrays = arrays_room();
+    let mut log = log_room();
+    all_windows(&mut window, &mut line, &mut text, &mut arrays, &mut log)
 }

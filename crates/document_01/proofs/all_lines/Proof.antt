@@ -1,44 +1,54 @@
--- `all_lines` is safe and ends: what is left of the lines grows less.
+-- `all_lines` is safe and ends: what is left of the window grows less.
 use lib.ListN.{length}
-use Prim.Native.Nat.{_-_, _≤_}
-use mathlib.Core.Path.{_≡_, refl}
+use lib.Seq.{length-take-le}
+use Prim.Native.Nat.{_-_}
+use mathlib.Core.Path.{_≡_, refl, sym}
 use Rattle.document_01.proofs.all_lines.Statement.{statement}
 use Rattle.document_01.proofs.all_lines.Tie as tie
 use borrow.Author.Needs.{needs}
 use native.Mathlib.Omega.{arith}
 
 abbrev Inv-loop : tie.InvT-loop
-Inv-loop lines text₀ room₀ tree₀ i₀ text room tree i = (length text ≡ length text₀) × (length room ≡ length room₀) × (length tree ≡ length tree₀)
+Inv-loop window line₀ start text₀ arrays₀ log₀ i₀ at₀ line text arrays log i at = (length line ≡ length line₀) × (length text ≡ length text₀) × (length arrays ≡ length arrays₀) × (length log ≡ length log₀)
 
 abbrev μ-loop : tie.MeasureT-loop
-μ-loop lines text₀ room₀ tree₀ i₀ text room tree i = length lines - i
+μ-loop window line₀ start text₀ arrays₀ log₀ i₀ at₀ line text arrays log i at = length window - i
 
 loop-holds : tie.Need-loop-holds Inv-loop μ-loop
-loop-holds c = (refl, refl, refl)
+loop-holds c = (refl, refl, refl, refl)
 
-line-end-requires : tie.Need-line-end-requires Inv-loop μ-loop
-line-end-requires c κs = search needs
-
-sub-one-line : tie.Need-sub-one-line Inv-loop μ-loop
-sub-one-line c = search needs
-
-part-one-line-start : tie.Need-part-one-line-start Inv-loop μ-loop
-part-one-line-start c = search needs
-
-part-one-line-end : tie.Need-part-one-line-end Inv-loop μ-loop
-part-one-line-end c = search needs
-
-one-line-requires : tie.Need-one-line-requires Inv-loop μ-loop
-one-line-requires c κs = search needs
+shared-slice-read-b : tie.Need-shared-slice-read-b Inv-loop μ-loop
+shared-slice-read-b c = search needs
 
 add-i : tie.Need-add-i Inv-loop μ-loop
 add-i c = search needs
 
+at-most-requires : tie.Need-at-most-requires Inv-loop μ-loop
+at-most-requires c κs = search needs
+
+slice-reshare-prefix-with-work : tie.Need-slice-reshare-prefix-with-work Inv-loop μ-loop
+slice-reshare-prefix-with-work c = search needs
+
+slice-aggregate-with-work : tie.Need-slice-aggregate-with-work Inv-loop μ-loop
+slice-aggregate-with-work c = sym (length-take-le _ _ (omega (arith, c .before .at-most .ensures)))
+
+with-work-requires : tie.Need-with-work-requires Inv-loop μ-loop
+with-work-requires c κs = search needs
+
 loop-less : tie.Need-loop-less Inv-loop μ-loop
-loop-less c = omega (arith, c .before .before .before .before .before .before .before .before .before .before .before .line-end .ensures)
+loop-less c = omega arith
 
 loop-again : tie.Need-loop-again Inv-loop μ-loop
-loop-again c = (omega (arith, c .before .before .before .before .before .before .one-line .kept), omega (arith, c .before .before .before .before .before .before .one-line .kept), omega (arith, c .before .before .before .before .before .before .one-line .kept))
+loop-again c = (omega (arith, c .before .before .before .before .before .before .with-work .kept), omega (arith, c .before .before .before .before .before .before .with-work .kept), omega (arith, c .before .before .before .before .before .before .with-work .kept), omega (arith, c .before .before .before .before .before .before .with-work .kept))
+
+put-requires : tie.Need-put-requires Inv-loop μ-loop
+put-requires c κs = search needs
+
+loop-less-2 : tie.Need-loop-less-2 Inv-loop μ-loop
+loop-less-2 c = omega arith
+
+loop-again-2 : tie.Need-loop-again-2 Inv-loop μ-loop
+loop-again-2 c = (omega (arith, c .before .before .put .kept), omega (arith, c .before .before .put .kept), omega (arith, c .before .before .put .kept), omega (arith, c .before .before .put .kept))
 
 same-length : tie.Need-same-length Inv-loop μ-loop
 same-length c = search needs
@@ -48,6 +58,9 @@ same-length-2 c = search needs
 
 same-length-3 : tie.Need-same-length-3 Inv-loop μ-loop
 same-length-3 c = search needs
+
+same-length-4 : tie.Need-same-length-4 Inv-loop μ-loop
+same-length-4 c = search needs
 
 returns : tie.Need-returns Inv-loop μ-loop
 returns c = search needs
@@ -59,15 +72,19 @@ all-lines-spec =
     Inv-loop
     μ-loop
     loop-holds
-    line-end-requires
-    sub-one-line
-    part-one-line-start
-    part-one-line-end
-    one-line-requires
+    shared-slice-read-b
     add-i
+    at-most-requires
+    slice-reshare-prefix-with-work
+    slice-aggregate-with-work
+    with-work-requires
     loop-less
     loop-again
+    put-requires
+    loop-less-2
+    loop-again-2
     same-length
     same-length-2
     same-length-3
+    same-length-4
     returns)

@@ -2,8 +2,8 @@
 use lib.ListN.{length}
 use Prim.Native.Nat.{_-_}
 use mathlib.Core.Path.{_≡_, refl}
-use Rattle.document_01.proofs.read_beginnings.Statement.{statement}
-use Rattle.document_01.proofs.read_beginnings.Tie as tie
+use Rattle.document_01.proofs.reading.read_beginnings.Statement.{statement}
+use Rattle.document_01.proofs.reading.read_beginnings.Tie as tie
 use borrow.Author.Needs.{needs}
 use native.Mathlib.Omega.{arith}
 

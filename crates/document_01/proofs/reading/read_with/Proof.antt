@@ -1,8 +1,8 @@
 -- `read_with` is safe: what is lent is at most what there is.
 use lib.Seq.{length-take-le}
 use mathlib.Core.Path.{sym}
-use Rattle.document_01.proofs.read_with.Statement.{statement}
-use Rattle.document_01.proofs.read_with.Tie as tie
+use Rattle.document_01.proofs.reading.read_with.Statement.{statement}
+use Rattle.document_01.proofs.reading.read_with.Tie as tie
 use borrow.Author.Needs.{needs}
 use native.Mathlib.Omega.{arith}
 

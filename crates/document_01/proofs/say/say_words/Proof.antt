@@ -1,7 +1,7 @@
 -- `say_words` is safe and ends: what is left to say grows less.
 use Prim.Native.Nat.{_-_}
-use Rattle.document_01.proofs.say_words.Statement.{statement}
-use Rattle.document_01.proofs.say_words.Tie as tie
+use Rattle.document_01.proofs.say.say_words.Statement.{statement}
+use Rattle.document_01.proofs.say.say_words.Tie as tie
 use borrow.Author.Needs.{needs}
 use native.Mathlib.Omega.{arith}
 

@@ -1,24 +1,28 @@
--- `line_end` stays within the text and ends: what is left of the text grows less.
+-- `words_kept` is safe and ends: what is left of the buffer grows less.
 use lib.ListN.{length}
-use Prim.Native.Nat.{_-_, _≤_}
+use Prim.Native.Nat.{_-_}
+use Rattle.document_01.proofs.say.words_kept.Statement.{statement}
+use Rattle.document_01.proofs.say.words_kept.Tie as tie
+use borrow.Author.Needs.{needs}
 use native.Mathlib.Omega.{arith}
-use Rattle.document_01.proofs.line.line_end.Statement.{statement}
-use Rattle.document_01.proofs.line.line_end.Tie as tie
 
 abbrev Inv-loop : tie.InvT-loop
-Inv-loop text from i₀ i = (from ≤ i) × (i ≤ length text)
+Inv-loop b from i₀ i = Unit {0}
 
 abbrev μ-loop : tie.MeasureT-loop
-μ-loop text from i₀ i = length text - i
+μ-loop b from i₀ i = length b - i
 
 loop-holds : tie.Need-loop-holds Inv-loop μ-loop
-loop-holds c = omega arith
+loop-holds c = tt
+
+mul-if1 : tie.Need-mul-if1 Inv-loop μ-loop
+mul-if1 c = omega arith
 
 shared-slice-read-if1 : tie.Need-shared-slice-read-if1 Inv-loop μ-loop
 shared-slice-read-if1 c = omega arith
 
 returns : tie.Need-returns Inv-loop μ-loop
-returns c = omega arith
+returns c = search needs
 
 add-i : tie.Need-add-i Inv-loop μ-loop
 add-i c = omega arith
@@ -27,18 +31,19 @@ loop-less : tie.Need-loop-less Inv-loop μ-loop
 loop-less c = omega arith
 
 loop-again : tie.Need-loop-again Inv-loop μ-loop
-loop-again c = omega arith
+loop-again c = tt
 
 returns-2 : tie.Need-returns-2 Inv-loop μ-loop
-returns-2 c = omega arith
+returns-2 c = search needs
 
-pub line-end-spec : {M : Type 1} → statement M
-line-end-spec =
+pub words-kept-spec : {M : Type 1} → statement M
+words-kept-spec =
     tie.close
     (tie.spec
     Inv-loop
     μ-loop
     loop-holds
+    mul-if1
     shared-slice-read-if1
     returns
     add-i

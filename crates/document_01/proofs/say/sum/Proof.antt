@@ -1,7 +1,7 @@
 -- `sum` is safe and ends: what is left of the words grows less.
 use Prim.Native.Nat.{_-_}
-use Rattle.document_01.proofs.sum.Statement.{statement}
-use Rattle.document_01.proofs.sum.Tie as tie
+use Rattle.document_01.proofs.say.sum.Statement.{statement}
+use Rattle.document_01.proofs.say.sum.Tie as tie
 use borrow.Author.Needs.{needs}
 use native.Mathlib.Omega.{arith}
 

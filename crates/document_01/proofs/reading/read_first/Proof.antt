@@ -1,8 +1,8 @@
 -- `read_first` is safe: what is read is at most what there is.
 use lib.Seq.{length-take-le}
 use mathlib.Core.Path.{sym}
-use Rattle.document_01.proofs.read_first.Statement.{statement}
-use Rattle.document_01.proofs.read_first.Tie as tie
+use Rattle.document_01.proofs.reading.read_first.Statement.{statement}
+use Rattle.document_01.proofs.reading.read_first.Tie as tie
 use borrow.Author.Needs.{needs}
 use native.Mathlib.Omega.{arith}
 

@@ -3,8 +3,8 @@ use lib.ListN.{length}
 use lib.Seq.{length-take-le}
 use Prim.Native.Nat.{_-_}
 use mathlib.Core.Path.{_≡_, refl, sym}
-use Rattle.document_01.proofs.read_times.Statement.{statement}
-use Rattle.document_01.proofs.read_times.Tie as tie
+use Rattle.document_01.proofs.reading.read_times.Statement.{statement}
+use Rattle.document_01.proofs.reading.read_times.Tie as tie
 use borrow.Author.Needs.{needs}
 use native.Mathlib.Omega.{arith}
 
