@@ -4,6 +4,8 @@ ghost use lib.ListN.{length};
 use libc::STDOUT_FILENO;
 
 // What lies in lent buffers before a call.
+const BYTE: u8 = 0xa5;
+
 const WORD: u32 = 0xa5a5a5a5;
 
 // So many words of arrays are said one by one.
@@ -78,6 +80,14 @@ pub fn refusal(n: u32, at: usize) {
     number(at);
 }
 
+pub fn fill_bytes(b: &mut [u8]) {
+    let mut i: usize = 0;
+    while i < b.len() {
+        b[i] = BYTE;
+        i += 1;
+    }
+}
+
 pub fn fill_words(b: &mut [u32]) {
     let mut i: usize = 0;
     while i < b.len() {
@@ -86,7 +96,18 @@ pub fn fill_words(b: &mut [u32]) {
     }
 }
 
-// Whether the words from `from` on are as they were filled.
+// Whether the bytes from `from` on are as they were filled.
+pub fn bytes_kept(b: &[u8], from: usize) -> bool {
+    let mut i = from;
+    while i < b.len() {
+        if b[i] != BYTE {
+            return false;
+        }
+        i += 1;
+    }
+    true
+}
+
 pub fn words_kept(b: &[u32], from: usize) -> bool {
     let mut i = from;
     while i < b.len() {

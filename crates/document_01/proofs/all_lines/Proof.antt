@@ -9,13 +9,13 @@ use borrow.Author.Needs.{needs}
 use native.Mathlib.Omega.{arith}
 
 abbrev Inv-loop : tie.InvT-loop
-Inv-loop window line₀ start text₀ arrays₀ log₀ i₀ at₀ line text arrays log i at = (length line ≡ length line₀) × (length text ≡ length text₀) × (length arrays ≡ length arrays₀) × (length log ≡ length log₀)
+Inv-loop window line₀ start text₀ image₀ arrays₀ log₀ i₀ at₀ line text image arrays log i at = (length line ≡ length line₀) × (length text ≡ length text₀) × (length image ≡ length image₀) × (length arrays ≡ length arrays₀) × (length log ≡ length log₀)
 
 abbrev μ-loop : tie.MeasureT-loop
-μ-loop window line₀ start text₀ arrays₀ log₀ i₀ at₀ line text arrays log i at = length window - i
+μ-loop window line₀ start text₀ image₀ arrays₀ log₀ i₀ at₀ line text image arrays log i at = length window - i
 
 loop-holds : tie.Need-loop-holds Inv-loop μ-loop
-loop-holds c = (refl, refl, refl, refl)
+loop-holds c = (refl, refl, refl, refl, refl)
 
 shared-slice-read-b : tie.Need-shared-slice-read-b Inv-loop μ-loop
 shared-slice-read-b c = search needs
@@ -26,20 +26,20 @@ add-i c = search needs
 at-most-requires : tie.Need-at-most-requires Inv-loop μ-loop
 at-most-requires c κs = search needs
 
-slice-reshare-prefix-with-work : tie.Need-slice-reshare-prefix-with-work Inv-loop μ-loop
-slice-reshare-prefix-with-work c = search needs
+slice-reshare-prefix-whole-line : tie.Need-slice-reshare-prefix-whole-line Inv-loop μ-loop
+slice-reshare-prefix-whole-line c = search needs
 
-slice-aggregate-with-work : tie.Need-slice-aggregate-with-work Inv-loop μ-loop
-slice-aggregate-with-work c = sym (length-take-le _ _ (omega (arith, c .before .at-most .ensures)))
+slice-aggregate-whole-line : tie.Need-slice-aggregate-whole-line Inv-loop μ-loop
+slice-aggregate-whole-line c = sym (length-take-le _ _ (omega (arith, c .before .at-most .ensures)))
 
-with-work-requires : tie.Need-with-work-requires Inv-loop μ-loop
-with-work-requires c κs = search needs
+whole-line-requires : tie.Need-whole-line-requires Inv-loop μ-loop
+whole-line-requires c κs = search needs
 
 loop-less : tie.Need-loop-less Inv-loop μ-loop
 loop-less c = omega arith
 
 loop-again : tie.Need-loop-again Inv-loop μ-loop
-loop-again c = (omega (arith, c .before .before .before .before .before .before .with-work .kept), omega (arith, c .before .before .before .before .before .before .with-work .kept), omega (arith, c .before .before .before .before .before .before .with-work .kept), omega (arith, c .before .before .before .before .before .before .with-work .kept))
+loop-again c = (omega (arith, c .before .before .before .before .before .before .before .before .whole-line .kept), omega (arith, c .before .before .before .before .before .before .before .before .whole-line .kept), omega (arith, c .before .before .before .before .before .before .before .before .whole-line .kept), omega (arith, c .before .before .before .before .before .before .before .before .whole-line .kept), omega (arith, c .before .before .before .before .before .before .before .before .whole-line .kept))
 
 put-requires : tie.Need-put-requires Inv-loop μ-loop
 put-requires c κs = search needs
@@ -48,7 +48,7 @@ loop-less-2 : tie.Need-loop-less-2 Inv-loop μ-loop
 loop-less-2 c = omega arith
 
 loop-again-2 : tie.Need-loop-again-2 Inv-loop μ-loop
-loop-again-2 c = (omega (arith, c .before .before .put .kept), omega (arith, c .before .before .put .kept), omega (arith, c .before .before .put .kept), omega (arith, c .before .before .put .kept))
+loop-again-2 c = (omega (arith, c .before .before .put .kept), omega (arith, c .before .before .put .kept), omega (arith, c .before .before .put .kept), omega (arith, c .before .before .put .kept), omega (arith, c .before .before .put .kept))
 
 same-length : tie.Need-same-length Inv-loop μ-loop
 same-length c = search needs
@@ -61,6 +61,9 @@ same-length-3 c = search needs
 
 same-length-4 : tie.Need-same-length-4 Inv-loop μ-loop
 same-length-4 c = search needs
+
+same-length-5 : tie.Need-same-length-5 Inv-loop μ-loop
+same-length-5 c = search needs
 
 returns : tie.Need-returns Inv-loop μ-loop
 returns c = search needs
@@ -75,9 +78,9 @@ all-lines-spec =
     shared-slice-read-b
     add-i
     at-most-requires
-    slice-reshare-prefix-with-work
-    slice-aggregate-with-work
-    with-work-requires
+    slice-reshare-prefix-whole-line
+    slice-aggregate-whole-line
+    whole-line-requires
     loop-less
     loop-again
     put-requires
@@ -87,4 +90,5 @@ all-lines-spec =
     same-length-2
     same-length-3
     same-length-4
+    same-length-5
     returns)

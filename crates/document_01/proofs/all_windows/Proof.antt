@@ -8,13 +8,13 @@ use borrow.Author.Needs.{needs}
 use native.Mathlib.Omega.{arith}
 
 abbrev Inv-loop : tie.InvT-loop
-Inv-loop window₀ line₀ text₀ arrays₀ log₀ at₀ w₀ window line text arrays log at w = (length window ≡ length window₀) × (length line ≡ length line₀) × (length text ≡ length text₀) × (length arrays ≡ length arrays₀) × (length log ≡ length log₀)
+Inv-loop window₀ line₀ text₀ image₀ arrays₀ log₀ at₀ w₀ window line text image arrays log at w = (length window ≡ length window₀) × (length line ≡ length line₀) × (length text ≡ length text₀) × (length image ≡ length image₀) × (length arrays ≡ length arrays₀) × (length log ≡ length log₀)
 
 abbrev μ-loop : tie.MeasureT-loop
-μ-loop window₀ line₀ text₀ arrays₀ log₀ at₀ w₀ window line text arrays log at w = 4096 - w
+μ-loop window₀ line₀ text₀ image₀ arrays₀ log₀ at₀ w₀ window line text image arrays log at w = 4096 - w
 
 loop-holds : tie.Need-loop-holds Inv-loop μ-loop
-loop-holds c = (refl, refl, refl, refl, refl)
+loop-holds c = (refl, refl, refl, refl, refl, refl)
 
 read-full-requires : tie.Need-read-full-requires Inv-loop μ-loop
 read-full-requires c κs = search needs
@@ -34,6 +34,9 @@ same-length-4 c = search needs
 same-length-5 : tie.Need-same-length-5 Inv-loop μ-loop
 same-length-5 c = search needs
 
+same-length-6 : tie.Need-same-length-6 Inv-loop μ-loop
+same-length-6 c = search needs
+
 returns : tie.Need-returns Inv-loop μ-loop
 returns c = search needs
 
@@ -47,10 +50,7 @@ loop-less : tie.Need-loop-less Inv-loop μ-loop
 loop-less c = omega arith
 
 loop-again : tie.Need-loop-again Inv-loop μ-loop
-loop-again c = (omega (arith, c .before .before .before .before .before .before .before .before .some-lines .kept, c .before .before .before .before .before .before .before .before .before .before .before .before .before .before .before .before .before .read-full .kept), omega (arith, c .before .before .before .before .before .before .before .before .some-lines .kept), omega (arith, c .before .before .before .before .before .before .before .before .some-lines .kept), omega (arith, c .before .before .before .before .before .before .before .before .some-lines .kept), omega (arith, c .before .before .before .before .before .before .before .before .some-lines .kept))
-
-same-length-6 : tie.Need-same-length-6 Inv-loop μ-loop
-same-length-6 c = search needs
+loop-again c = (omega (arith, c .before .before .before .before .before .before .before .before .before .before .some-lines .kept, c .before .before .before .before .before .before .before .before .before .before .before .before .before .before .before .before .before .before .before .before .read-full .kept), omega (arith, c .before .before .before .before .before .before .before .before .before .before .some-lines .kept), omega (arith, c .before .before .before .before .before .before .before .before .before .before .some-lines .kept), omega (arith, c .before .before .before .before .before .before .before .before .before .before .some-lines .kept), omega (arith, c .before .before .before .before .before .before .before .before .before .before .some-lines .kept), omega (arith, c .before .before .before .before .before .before .before .before .before .before .some-lines .kept))
 
 same-length-7 : tie.Need-same-length-7 Inv-loop μ-loop
 same-length-7 c = search needs
@@ -63,6 +63,12 @@ same-length-9 c = search needs
 
 same-length-10 : tie.Need-same-length-10 Inv-loop μ-loop
 same-length-10 c = search needs
+
+same-length-11 : tie.Need-same-length-11 Inv-loop μ-loop
+same-length-11 c = search needs
+
+same-length-12 : tie.Need-same-length-12 Inv-loop μ-loop
+same-length-12 c = search needs
 
 returns-2 : tie.Need-returns-2 Inv-loop μ-loop
 returns-2 c = search needs
@@ -80,14 +86,16 @@ all-windows-spec =
     same-length-3
     same-length-4
     same-length-5
+    same-length-6
     returns
     some-lines-requires
     add-w
     loop-less
     loop-again
-    same-length-6
     same-length-7
     same-length-8
     same-length-9
     same-length-10
+    same-length-11
+    same-length-12
     returns-2)

@@ -12,20 +12,20 @@ at-most-requires c κs = search needs
 at-most-requires-2 : tie.Need-at-most-requires-2
 at-most-requires-2 c κs = search needs
 
-slice-aggregate-run-asked : tie.Need-slice-aggregate-run-asked
-slice-aggregate-run-asked c = sym (length-take-le _ _ (omega (arith, c .before .before .at-most .ensures, c .before .at-most2 .ensures)))
+slice-aggregate-run-kind : tie.Need-slice-aggregate-run-kind
+slice-aggregate-run-kind c = sym (length-take-le _ _ (omega (arith, c .before .before .at-most .ensures, c .before .at-most2 .ensures)))
 
-sub-run-asked : tie.Need-sub-run-asked
-sub-run-asked c = search needs
+sub-run-kind : tie.Need-sub-run-kind
+sub-run-kind c = search needs
 
-part-run-asked-start : tie.Need-part-run-asked-start
-part-run-asked-start c = search needs
+part-run-kind-start : tie.Need-part-run-kind-start
+part-run-kind-start c = search needs
 
-part-run-asked-end : tie.Need-part-run-asked-end
-part-run-asked-end c = search needs
+part-run-kind-end : tie.Need-part-run-kind-end
+part-run-kind-end c = search needs
 
-run-asked-requires : tie.Need-run-asked-requires
-run-asked-requires c κs = search needs
+run-kind-requires : tie.Need-run-kind-requires
+run-kind-requires c κs = search needs
 
 same-length : tie.Need-same-length
 same-length c = search needs
@@ -45,8 +45,11 @@ same-length-5 c = search needs
 same-length-6 : tie.Need-same-length-6
 same-length-6 c = search needs
 
+same-length-7 : tie.Need-same-length-7
+same-length-7 c = search needs
+
 returns : tie.Need-returns
 returns c = search needs
 
 pub run-bytes-spec : {M : Type 1} → statement M
-run-bytes-spec = tie.close (tie.spec at-most-requires at-most-requires-2 slice-aggregate-run-asked sub-run-asked part-run-asked-start part-run-asked-end run-asked-requires same-length same-length-2 same-length-3 same-length-4 same-length-5 same-length-6 returns)
+run-bytes-spec = tie.close (tie.spec at-most-requires at-most-requires-2 slice-aggregate-run-kind sub-run-kind part-run-kind-start part-run-kind-end run-kind-requires same-length same-length-2 same-length-3 same-length-4 same-length-5 same-length-6 same-length-7 returns)

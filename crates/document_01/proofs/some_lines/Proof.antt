@@ -27,8 +27,11 @@ same-length-3 c = search needs
 same-length-4 : tie.Need-same-length-4
 same-length-4 c = search needs
 
+same-length-5 : tie.Need-same-length-5
+same-length-5 c = search needs
+
 returns : tie.Need-returns
 returns c = search needs
 
 pub some-lines-spec : {M : Type 1} → statement M
-some-lines-spec = tie.close (tie.spec at-most-requires slice-aggregate-all-lines all-lines-requires same-length same-length-2 same-length-3 same-length-4 returns)
+some-lines-spec = tie.close (tie.spec at-most-requires slice-aggregate-all-lines all-lines-requires same-length same-length-2 same-length-3 same-length-4 same-length-5 returns)
