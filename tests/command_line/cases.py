@@ -117,7 +117,7 @@ def usage_rows():
                                     ("an unknown option", "exec i --loud 3", "no such option", "--loud"), ("a short option", "exec -i", "no such option", "-i"),
                                     ("an option of another command", "exec i --fuel 3", "no such option", "--fuel"), ("an option twice", "exec i --room 1 --room 1", "twice", "--room"),
                                     ("no value", "exec i --limit", "no value", "--limit"), ("input and block", "exec i --input a --block b", "--input and --block"),
-                                    ("help with a file", "help i", "a file more", "i"), ("help with an option", "help --room 3", "no such option", "--room"),
+                                    ("one file for build", "build i", "lacks a file"), ("help with a file", "help i", "a file more", "i"), ("help with an option", "help --room 3", "no such option", "--room"),
                                     ("many arguments", "exec" + " i" * 40, "more arguments")):
         yield row(title, arguments, {"i": EXIT, "j": EXIT}, USAGE, "", *said, "usage: doorlang")
     yield "an empty name", ["exec", ""], {}, USAGE, "", ("cannot read",)
@@ -214,8 +214,8 @@ def lines(**values):
 def text_rows():
     """Every answer to a text, and every vector of its run."""
     for title, text, answer, said in REFUSALS:
-        for command in ("check", "run"):
-            yield row("%s: %s" % (command, title), command + " t", {"t": text}, REFUSED, "answer: %d\n" % answer, said)
+        for command in ("check t", "run t", "build t i"):
+            yield row("%s: %s" % (command, title), command, {"t": text}, REFUSED, "answer: %d\n" % answer, said)
     for title, text, arrays, outcome, log, after, fuel in RUNS:
         status = ACCEPTED if outcome == "finished" else STOPPED
         yield row("check: " + title, "check t", {"t": text}, ACCEPTED, "answer: 0\n", "accepted")
@@ -274,6 +274,30 @@ class Suite:
                        *("standard error lacks %r: %r" % (s, error[:300]) for s in said if s not in error),
                        sorted(os.listdir(folder)) != sorted(files) and "left other files")
 
+    def built(self, title, text, arrays, outcome, log, after):
+        """An image that build writes runs as its text does."""
+        with tempfile.TemporaryDirectory() as folder:
+            for name, content in (("t", text), ("n", arrays.encode())):
+                with open(os.path.join(folder, name), "wb") as f:
+                    f.write(content)
+            made = run(self.program, folder, ["build", "t", "i"])
+            words = os.path.getsize(os.path.join(folder, "i")) // 4 if made.returncode == 0 else 0
+            got = run(self.program, folder, ["exec", "i", "--input", "n"])
+            wrote = dict(line.split(":", 1) for line in got.stdout.decode().splitlines())
+            wanted = {"stop": outcome.replace("finished", "exit"), "log": log, "arrays": after}
+            self.judge("build: " + title, made.returncode != 0 and "build ends with %d" % made.returncode,
+                       made.stdout.decode() != "answer: 0\nwords: %d\n" % words and "build wrote %r" % made.stdout,
+                       *("%s is %r, not %r" % (k, wrote.get(k), v) for k, v in wanted.items() if wrote.get(k, "").strip() != v))
+
+    def builds(self):
+        for title, text, arrays, outcome, log, after, _ in RUNS:
+            self.built(title, text, arrays, outcome, log, after)
+        with tempfile.TemporaryDirectory() as folder:
+            with open(os.path.join(folder, "t"), "wb") as f:
+                f.write(GCD)
+            got = run(self.program, folder, ["build", "t", "none/i"])
+            self.judge("build: an image that cannot be written", got.returncode != USAGE and "status %d" % got.returncode, got.stdout and "wrote %r" % got.stdout)
+
     def memory(self):
         """--memory writes the memory of document 03 section 1 after the run."""
         with tempfile.TemporaryDirectory() as folder:
@@ -308,6 +332,7 @@ def main(program):
         for one in rows():
             suite.row(*one)
     suite.memory()
+    suite.builds()
     suite.full_output()
     suite.help()
     print("%d passed, %d failed" % (suite.passed, suite.failed))

@@ -9,6 +9,7 @@ pub enum Command {
     Help,
     Check,
     Run,
+    Build,
     Exec,
     Other,
 }
@@ -29,6 +30,8 @@ pub const ROOM: usize = 5;
 pub const MEMORY: usize = 6;
 
 pub const FIRST: usize = 7;
+
+pub const SECOND: usize = 8;
 
 pub const PLACES: usize = 9;
 
@@ -93,6 +96,9 @@ pub fn command_of(word: &[u8]) -> Command
     }
     if is_spelt(word, b"run") {
         return Command::Run;
+    }
+    if is_spelt(word, b"build") {
+        return Command::Build;
     }
     if is_spelt(word, b"exec") {
         return Command::Exec;
@@ -159,6 +165,7 @@ fn takes(command: Command, place: usize) -> bool
         Command::Help => false,
         Command::Check => false,
         Command::Run => run_takes(place),
+        Command::Build => false,
         Command::Exec => exec_takes(place),
         Command::Other => false,
     }
@@ -172,6 +179,7 @@ fn files(command: Command) -> usize
         Command::Help => 0,
         Command::Check => 1,
         Command::Run => 1,
+        Command::Build => 2,
         Command::Exec => 1,
         Command::Other => 0,
     }

@@ -10,7 +10,7 @@ pub fn usage(to: i32) -> bool {
     );
     io::write_all(
         to,
-        b"       doorlang exec IMAGE [--input FILE | --block FILE] [--limit N] [--room N] [--memory FILE]\n",
+        b"       doorlang build TEXT IMAGE\n       doorlang exec IMAGE [--input FILE | --block FILE] [--limit N] [--room N] [--memory FILE]\n",
     );
     io::write_all(to, b"       doorlang help\n")
 }
@@ -20,6 +20,7 @@ pub fn help() -> u32 {
     io::write_all(libc::STDOUT_FILENO, b"\n");
     output::say(b"check    says whether a rule program is accepted\n");
     output::say(b"run      runs a rule program\n");
+    output::say(b"build    compiles a rule program to an image\n");
     output::say(b"exec     runs an image on the panel processor\n");
     output::say(b"help     prints this\n\n");
     output::say(b"--input FILE   the arrays as text: decimal numbers between blanks\n");

@@ -6,6 +6,7 @@ use console::arguments::Command;
 use console::arguments::Seen;
 use output::tell;
 
+mod build; // the image of a text
 mod check; // the answer to a text
 mod exec; // the run of an image
 mod files; // files by the arguments that name them
@@ -50,6 +51,7 @@ fn perform(command: Command, given: &[usize]) -> u32 {
         Command::Help => help::help(),
         Command::Check => check::check(given),
         Command::Run => run::run(given),
+        Command::Build => build::build(given),
         Command::Exec => exec::exec(given),
         Command::Other => output::BAD_USAGE,
     }
@@ -102,6 +104,7 @@ fn command(count: usize, table: &mut [usize], given: &mut [usize]) -> u32
         Command::Help => (),
         Command::Check => (),
         Command::Run => (),
+        Command::Build => (),
         Command::Exec => (),
     }
     let long = places(count, table);

@@ -30,7 +30,8 @@ pub fn core_room() -> [u32; 525315] {
     [0; 525315]
 }
 
-fn at_most(n: usize, most: usize) -> usize
+// A number, or the most that there is.
+pub fn at_most(n: usize, most: usize) -> usize
     ensures { λ r. ⌜ r ≤ most ⌝ }
 {
     if n < most { n } else { most }

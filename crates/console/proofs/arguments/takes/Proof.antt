@@ -19,11 +19,14 @@ run-takes-requires c κs = search needs
 enum-told-4 : tie.Need-enum-told-4
 enum-told-4 c = search needs
 
+enum-told-5 : tie.Need-enum-told-5
+enum-told-5 c = search needs
+
 exec-takes-requires : tie.Need-exec-takes-requires
 exec-takes-requires c κs = search needs
 
-enum-told-5 : tie.Need-enum-told-5
-enum-told-5 c = search needs
+enum-told-6 : tie.Need-enum-told-6
+enum-told-6 c = search needs
 
 returns : tie.Need-returns
 unfolding takesOf
@@ -39,11 +42,15 @@ returns-3 c = rw (c .before .enum-told3 .given .1) (c .run-takes .ensures)
 
 returns-4 : tie.Need-returns-4
 unfolding takesOf
-returns-4 c = rw (c .before .enum-told4 .given .1) (c .exec-takes .ensures)
+returns-4 c = rw (c .enum-told4 .given .1)
 
 returns-5 : tie.Need-returns-5
 unfolding takesOf
-returns-5 c = rw (c .enum-told5 .given .1)
+returns-5 c = rw (c .before .enum-told5 .given .1) (c .exec-takes .ensures)
+
+returns-6 : tie.Need-returns-6
+unfolding takesOf
+returns-6 c = rw (c .enum-told6 .given .1)
 
 pub takes-spec : {M : Type 1} → statement M
-takes-spec = tie.close (tie.spec enum-told enum-told-2 enum-told-3 run-takes-requires enum-told-4 exec-takes-requires enum-told-5 returns returns-2 returns-3 returns-4 returns-5)
+takes-spec = tie.close (tie.spec enum-told enum-told-2 enum-told-3 run-takes-requires enum-told-4 enum-told-5 exec-takes-requires enum-told-6 returns returns-2 returns-3 returns-4 returns-5 returns-6)
