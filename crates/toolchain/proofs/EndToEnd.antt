@@ -163,10 +163,11 @@ module _ (text input : List ℕ) (room : ℕ) (bytes : Below 256 input) (p : Pro
     ends : (fuel limit : ℕ) (i : Interpreting text input room fuel) (m : Emulating (image p) input room limit) (stop : Status) → EndedAs i stop →
         costs .K * fuelUsed i + costs .K0 ≤ limit → Alike stop i m × (m .ended .steps ≤ costs .K * fuelUsed i + costs .K0)
     ends fuel limit i m stop e h =
-        let r = k .ends arrays fuel room fine stop (source-ends i stop e) limit (subst (λ (n : ℕ). costs .K * n + costs .K0 ≤ limit) (source-used i) h) in
-        (alike fuel limit i m stop (r .0),
-        subst (λ (n : ℕ). n ≤ costs .K * fuelUsed i + costs .K0) (sym (machined m .steps))
-        (subst (λ (n : ℕ). machine costs p (image p) arrays limit room .steps ≤ costs .K * n + costs .K0) (sym (source-used i)) (r .1)))
+        let r = k .ends arrays fuel room fine stop (source-ends i stop e) limit (subst (λ (n : ℕ). costs .K * n + costs .K0 ≤ limit) (source-used i) h) in (
+          alike fuel limit i m stop (r .0),
+          subst (λ (n : ℕ). n ≤ costs .K * fuelUsed i + costs .K0) (sym (machined m .steps))
+              (subst (λ (n : ℕ). machine costs p (image p) arrays limit room .steps ≤ costs .K * n + costs .K0) (sym (source-used i)) (r .1)),
+        )
 
     goes-on : (fuel : ℕ) (i : Interpreting text input room fuel) → i .ran .outcome ≡ OutOfFuel →
         (limit : ℕ) × (fuel ≤ costs .C * limit + costs .C0) × (limit ≤ costs .K * fuel + costs .K0) ×

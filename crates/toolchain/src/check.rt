@@ -32,9 +32,6 @@ pub fn check(
             number: 0,
             place: 0,
         },
-        Accepting::Refused(number, place) => Answer {
-            number,
-            place,
-        },
+        Accepting::Refused(number, place) => Answer { number, place },
     }
 }
