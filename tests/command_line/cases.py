@@ -233,15 +233,18 @@ def text_rows():
     yield row("run: answer 1 before 5", "run t --block b", {"t": b"@", "b": bytes(3)}, REFUSED, "answer: 1\n")
 
 
-def example_rows():
-    """Each program of examples/ gives what its file of expected lines says."""
+def examples():
+    """Each program of examples/: its name, text, input and expected lines."""
     folder = os.path.join(os.path.dirname(os.path.abspath(__file__)), "..", "..", "examples")
-    names = sorted(f[:-5] for f in os.listdir(folder) if f.endswith(".rule"))
     read = lambda name: open(os.path.join(folder, name), "rb").read()
-    for name in names:
-        expected = read(name + ".expected").decode()
+    for name in sorted(f[:-5] for f in os.listdir(folder) if f.endswith(".rule")):
+        yield name, read(name + ".rule"), read(name + ".txt"), read(name + ".expected").decode()
+
+
+def example_rows():
+    for name, text, numbers, expected in examples():
         status = ACCEPTED if "outcome: finished" in expected else STOPPED
-        yield row("example " + name, "run t --input n", {"t": read(name + ".rule"), "n": read(name + ".txt")}, status, expected)
+        yield row("example " + name, "run t --input n", {"t": text, "n": numbers}, status, expected)
 
 
 def run(program, folder, arguments, **more):
@@ -292,6 +295,9 @@ class Suite:
     def builds(self):
         for title, text, arrays, outcome, log, after, _ in RUNS:
             self.built(title, text, arrays, outcome, log, after)
+        for name, text, numbers, expected in examples():
+            wanted = dict(line.split(":", 1) for line in expected.splitlines())
+            self.built("example " + name, text, numbers.decode(), *(wanted[k].strip() for k in ("outcome", "log", "arrays")))
         with tempfile.TemporaryDirectory() as folder:
             with open(os.path.join(folder, "t"), "wb") as f:
                 f.write(GCD)
