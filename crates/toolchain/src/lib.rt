@@ -13,7 +13,7 @@ use emulator::run::run;
 use processor::Status;
 
 pub mod work; // working room
-pub mod accept; // document 01 §2 to §4: a text's program
+mod accept; // document 01 §2 to §4: a text's program
 pub mod check; // document 01 §1: the answer to a text
 pub mod interpret; // document 01 §5: the run of a text
 pub mod compile; // the image of a text
