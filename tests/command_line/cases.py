@@ -12,6 +12,9 @@ import subprocess
 import sys
 import tempfile
 
+sys.path.insert(0, os.path.join(os.path.dirname(os.path.abspath(__file__)), "..", "document_01"))
+from texts import G as GCD, Z as ZONES
+
 ACCEPTED, REFUSED, STOPPED, USAGE = 0, 1, 2, 64
 SECONDS = 60
 
@@ -136,26 +139,6 @@ def file_rows():
     yield row("memory on a full device", "exec i --memory /dev/full", {"i": EXIT}, USAGE, "", "cannot write /dev/full")
 
 
-GCD = b"""fn gcd(a: int, b: int): int {
-  while b != 0 { let t: int = a % b; a = b; b = t; }
-  return a;
-}
-fn main() { emit gcd(12, 18); emit gcd(-12, 18); emit gcd(5, 0); }
-"""
-ZONES = b"""var smoke: int[4];
-var door: int[2];
-fn alarm(z: int): bool { return smoke[z] >= 70 || smoke[z] < 0; }
-fn main() {
-  let n: int = 0;
-  let z: int = 0;
-  while z < 4 {
-    if alarm(z) { n = n + 1; emit z; }
-    z = z + 1;
-  }
-  if n >= 2 { door[0] = 1; door[1] = 1; emit 100; }
-  else { if n == 1 { door[0] = 1; } }
-}
-"""
 ECHO = b"fn f(x: int): int { emit x; return x; }\n"
 DEPTH = b"fn f(n: int): int { if n == 0 { return 0; } else { return 1 + f(n - 1); } }\n"
 
