@@ -2,7 +2,7 @@
 use Prim.Native.Nat.{ℕ, _≤_}
 use mathlib.Core.Path.{_≡_}
 use mathlib.Core.List.{List, _++_}
-use lib.ListN.{length}
+use lib.ListN.{length, getD}
 use lib.Seq.{sets}
 use Rattle.language.specs.Tree.{Item}
 use Rattle.language.specs.Grammar.{Parses}
@@ -10,7 +10,7 @@ use Rattle.language.specs.Core.{Program}
 use Rattle.language.specs.Text.{Accepted}
 use Rattle.grammar.specs.Flat.{treeWords}
 use Rattle.flat.specs.Words.{wordsOf}
-use Rattle.toolchain.specs.Checking.{Work, Enough, Answered, core-room}
+use Rattle.toolchain.specs.Checking.{Work, Enough, Declined, core-room}
 use Rattle.toolchain.specs.Interpretation.{Lent, Interprets}
 use Rattle.toolchain.specs.declared.accept.Accepting.{Accepting}
 use Rattle.toolchain.specs.declared.accept.Accepting.the-variants.{Program as Words, Refused}
@@ -30,9 +30,13 @@ pub record Made (text : List ℕ) (n : ℕ) (core : List ℕ) : Type 0 where
   pub size : n ≡ length (wordsOf program)
   pub short : n ≤ core-room
 
+-- the third word of a program: how many elements there are
+abbrev pub elementsOf : List ℕ → ℕ
+elementsOf core = getD core 2 0
+
 abbrev pub AcceptCase : List ℕ → Accepting → List ℕ → Type 0
 AcceptCase text (Words n) core′ = Made text n core′
-AcceptCase text (Refused n at) core′ = Answered text n at × (n ≡ 0 → ⊥)
+AcceptCase text (Refused n at) core′ = Declined text n at
 
 pub record Accepts (text : List ℕ) (r : Accepting) (core′ : List ℕ) : Type 0 where
   pub by : AcceptCase text r core′

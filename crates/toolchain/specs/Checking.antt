@@ -1,4 +1,4 @@
--- Claims 1 and 2 of `check`: document 01 §1's answers to a text, and the place that a refusal carries.
+-- Claims 1 and 2 of `check`: document 01 §1's answers to a text, the place that a refusal carries, and how many elements an accepted text's arrays have.
 use Prim.Native.Nat.{ℕ, _≤_}
 use mathlib.Core.Bool.{Bool, true, false}
 use mathlib.Core.Path.{_≡_}
@@ -41,14 +41,18 @@ abbrev pub Lacks : Bool → Work → Type 0
 Lacks true w = Enough w → ⊥
 Lacks false w = Enough w
 
--- Document 01 §1. A refusal carries a place in the text: of an unreadable text that of the token at fault, or the text's length (`treeOf`);
--- of a broken rule that which `elaborate` gives.
-pub data Answered (text : List ℕ) : ℕ → Place → Type 0 where
-  accepted : {p : Program} → Accepted text p → Answered text 0 0
-  unreadable : {at : Place} → Unreadable text → treeOf text ≡ refused at → Answered text 1 at
-  broken : {at : Place} → Broken text at → Answered text 2 at
+-- Document 01 §1: the refusals of a text. Each carries a place in the text: of an unreadable text that of the token at fault, or the text's length
+-- (`treeOf`); of a broken rule that which `elaborate` gives.
+pub data Declined (text : List ℕ) : ℕ → Place → Type 0 where
+  unreadable : {at : Place} → Unreadable text → treeOf text ≡ refused at → Declined text 1 at
+  broken : {at : Place} → Broken text at → Declined text 2 at
+
+-- Its answers: 0 with the number of elements of all arrays, or a refusal.
+pub data Answered (text : List ℕ) : Answer → Type 0 where
+  accepted : {p : Program} → Accepted text p → Answered text (record { number = 0; place = 0; elements = p .elements })
+  declined : {n : ℕ} {at : Place} → Declined text n at → Answered text (record { number = n; place = at; elements = 0 })
 
 -- `check`: 6 where working room is too short, else the text's answer.
 pub record Checks (text : List ℕ) (w : Work) (r : Answer) : Type 0 where
-  pub answers : Enough w → Answered text (r .number) (r .place)
-  pub short : (Enough w → ⊥) → (r .number ≡ 6) × (r .place ≡ 0)
+  pub answers : Enough w → Answered text r
+  pub short : (Enough w → ⊥) → r ≡ record { number = 6; place = 0; elements = 0 }

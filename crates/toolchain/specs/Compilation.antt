@@ -11,14 +11,14 @@ use Rattle.processor.specs.Image.{longest-code}
 use Rattle.claims.specs.Keeps.{Keeps}
 use Rattle.codegen.specs.Image.{image}
 use Rattle.codegen.proofs.Whole.{costs}
-use Rattle.toolchain.specs.Checking.{Work, Enough, Answered}
+use Rattle.toolchain.specs.Checking.{Work, Enough, Declined}
 use Rattle.toolchain.specs.declared.compile.Compiled.{Compiled}
 use Rattle.toolchain.specs.declared.compile.Compiled.the-variants.{Refused, Image}
 
 -- The refusals: working room too short is 6 at once; else 1 or 2 for the text, and 3 where the image is longer than document 03 §5 lets it be, or than its buffer.
 pub data Refuses (text : List ℕ) (w : Work) (before : List ℕ) : ℕ → Place → Type 0 where
   no-work : (Enough w → ⊥) → Refuses text w before 6 0
-  no-program : {n : ℕ} {at : Place} → Enough w → Answered text n at → (n ≡ 0 → ⊥) → Refuses text w before n at
+  no-program : {n : ℕ} {at : Place} → Enough w → Declined text n at → Refuses text w before n at
   too-long : {p : Program} → Enough w → Accepted text p → (longest-code < length (image p)) ⊎ (length before < length (image p)) → Refuses text w before 3 0
 
 -- An image of n bytes, at the buffer's start, keeps the meaning of the text's program.

@@ -11,7 +11,7 @@ use Rattle.language.specs.Text.{Accepted}
 use Rattle.language.specs.Meaning.{Run, runOf}
 use Rattle.interpreter.specs.declared.Ran as I
 use Rattle.interpreter.specs.Post.{outcomeOf}
-use Rattle.toolchain.specs.Checking.{Work, Enough, Answered}
+use Rattle.toolchain.specs.Checking.{Work, Enough, Declined}
 use Rattle.toolchain.specs.declared.interpret.Interpreted.{Interpreted}
 use Rattle.toolchain.specs.declared.interpret.Interpreted.the-variants.{Refused, Ran}
 
@@ -30,7 +30,7 @@ IsBlock p input = length input ≡ 4 * p .elements
 -- The refusals: working room too short is 6 at once; else the smallest that applies, 1 or 2 for the text, 5 for the block, 6 for the buffers.
 pub data Refuses (text input : List ℕ) (room : ℕ) (w : Work) (before : Lent) : ℕ → Place → Type 0 where
   no-work : (Enough w → ⊥) → Refuses text input room w before 6 0
-  no-program : {n : ℕ} {at : Place} → Enough w → Answered text n at → (n ≡ 0 → ⊥) → Refuses text input room w before n at
+  no-program : {n : ℕ} {at : Place} → Enough w → Declined text n at → Refuses text input room w before n at
   no-block : {p : Program} → Enough w → Accepted text p → (IsBlock p input → ⊥) → Refuses text input room w before 5 0
   no-room : {p : Program} → Enough w → Accepted text p → IsBlock p input → (length (before .arrays) < p .elements) ⊎ (length (before .log) < room) → Refuses text input room w before 6 0
 

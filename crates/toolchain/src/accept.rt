@@ -5,10 +5,12 @@ ghost use lib.ListN.{length};
 ghost use Rattle.tokens.specs.Kinds.{token-room};
 ghost use Rattle.grammar.specs.Flat.{tree-room};
 ghost use Rattle.toolchain.specs.Checking.{Enough, work, starts-room, core-room};
-ghost use Rattle.toolchain.specs.Accepting.{Accepts, Elaborated};
+ghost use Rattle.toolchain.specs.Accepting.{Accepts, Elaborated, elementsOf};
 use declarations::whole::elaborate;
+use flat::program;
 use grammar::Parsed;
 use grammar::parse;
+use interpreter::words::field;
 
 // A program of so many words stands in the core's buffer; or the text is refused, with a number and a place.
 pub enum Accepting {
@@ -85,4 +87,11 @@ pub fn accept(
 {
     let t = tree_size();
     read(text, tokens, &mut tree[..t], starts, core)
+}
+
+// How many elements the arrays of a program have together, by its words.
+pub fn elements(core: &[u32]) -> u32
+    ensures { λ r. ⌜ r ≡ elementsOf (now (core .entry)) ⌝ }
+{
+    field(core, 0, program::ELEMENTS)
 }

@@ -9,10 +9,9 @@ ghost use Rattle.toolchain.specs.Interpretation.{lent, Interprets};
 ghost use Rattle.toolchain.specs.Accepting.{RunsWords};
 use crate::accept::Accepting;
 use crate::accept::accept;
+use crate::accept::elements as elements_of;
 use crate::work::lacking;
-use flat::program;
 use interpreter::run;
-use interpreter::words::field;
 use word::bytes::word_of;
 
 // What `interpret` answers: the number of a refusal and the place that it carries; or how the run ended.
@@ -64,7 +63,7 @@ fn run_words(
     requires { ⌜ working-room ≤ length (now work) ⌝ }
     ensures { λ r. ⌜ RunsWords (now (core .entry)) (now (input .entry)) fuel room (lent (now (arrays .entry)) (now (log .entry))) (lent (now (arrays .exit)) (now (log .exit))) r ⌝ }
 {
-    let elements = field(core, 0, program::ELEMENTS) as usize;
+    let elements = elements_of(core) as usize;
     if input.len() != 4 * elements {
         return Interpreted::Refused(5, 0);
     }
