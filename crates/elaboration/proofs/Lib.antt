@@ -16,5 +16,7 @@ pub mod Returning
 pub mod Results
 pub mod Settling
 pub mod Settled
+pub mod Alike
+pub mod Unseen
 pub mod Accepted
 pub mod Kept
