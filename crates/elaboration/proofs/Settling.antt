@@ -10,7 +10,7 @@ use Rattle.language.specs.Tree as T
 use Rattle.language.specs.Tokens.{In}
 use Rattle.language.specs.Core.{Stmt, Block, Function}
 use Rattle.language.specs.Core as C
-use Rattle.language.specs.Rules.{found, Signature, Global, Local, Scope, Typed, functionOf, changed, combined, indexed, called, known, expr, exprs, leaves, gives, stmt, block}
+use Rattle.language.specs.Rules.{Ruled, _>>=_, found, Signature, Global, Local, Scope, Typed, functionOf, want, changed, combined, indexed, called, known, expr, exprs, leaves, gives, stmt, block}
 use Rattle.codegen.specs.Owed.{count}
 use Rattle.elaboration.specs.Settled.{Gives, functionAt, Reads, ReadsAll, after, SettledStmt, SettledBlock}
 use Rattle.elaboration.specs.Results.{Returns}
@@ -100,16 +100,20 @@ module _ (functions : List Function) (globals : List Global) (answers : (at : Pl
     given-back at none e s h u = broken
     given-back {written} at (some t) e s h u = then (wanted (Reads functions written) t at e u) λ v u′. kept (record { settled = u′; seen = h })
 
+    -- an expression of the type that is wanted, and what goes on with it
+    value : {B : Type 0} {Q : B → Type 0} {f : C.Expr → Ruled B} {written : List ℕ} (t : Ty) (at : Place) (e : T.Expr) (s : Scope globals) → Written written (s .visible) →
+        ((v : C.Expr) → Reads functions written v → All Q (f v)) → All Q (expr globals (s .visible) e >>= λ y. want t at y >>= f)
+    value {written = written} t at e s h k = then (expr-reads written (s .visible) h e) λ y u. then (wanted (Reads functions written) t at y u) k
+
     mutual
       unfolding stmt SettledStmt after
 
       stmt-settled : (t : T.Stmt) (s : Scope globals) (written : List ℕ) → Written written (s .visible) → All (Step written) (stmt globals result t s)
       stmt-settled (T.declare at x t e) s written h =
-          then (expr-reads written (s .visible) h e) λ y u.
-          then (wanted (Reads functions written) t at y u) λ v u′.
+          value t at e s h λ v u.
           then anything λ _ _.
           then anything λ _ _.
-          kept (record { settled = u′; seen = Each.more (In.here refl) (still h) })
+          kept (record { settled = u; seen = Each.more (In.here refl) (still h) })
       stmt-settled (T.assign at x e) s written h =
           then (expr-reads written (s .visible) h e) λ y u.
           then anything λ l _.
@@ -123,27 +127,21 @@ module _ (functions : List Function) (globals : List Global) (answers : (at : Pl
           then anything λ a _.
           kept (record { settled = (u′, v′); seen = h })
       stmt-settled (T.when at e a) s written h =
-          then (expr-reads written (s .visible) h e) λ y u.
-          then (wanted (Reads functions written) bool at y u) λ c u′.
+          value bool at e s h λ c u.
           then (block-settled a s written h) λ p v.
-          kept (record { settled = (u′, v, tt); seen = h })
+          kept (record { settled = (u, v, tt); seen = h })
       stmt-settled (T.choose at e a b) s written h =
-          then (expr-reads written (s .visible) h e) λ y u.
-          then (wanted (Reads functions written) bool at y u) λ c u′.
+          value bool at e s h λ c u.
           then (block-settled a s written h) λ p v.
           then (block-settled b (record { visible = s .visible; count = p .1 }) written h) λ q w.
-          kept (record { settled = (u′, v, w); seen = h })
+          kept (record { settled = (u, v, w); seen = h })
       stmt-settled (T.while at e a) s written h =
-          then (expr-reads written (s .visible) h e) λ y u.
-          then (wanted (Reads functions written) bool at y u) λ c u′.
+          value bool at e s h λ c u.
           then (block-settled a s written h) λ p v.
-          kept (record { settled = (u′, v); seen = h })
+          kept (record { settled = (u, v); seen = h })
       stmt-settled (T.leave at) s written h = then (left at result s h) λ c k. kept k
       stmt-settled (T.give at e) s written h = then (expr-reads written (s .visible) h e) λ y u. then (given-back at result y s h u) λ c k. kept k
-      stmt-settled (T.emit at e) s written h =
-          then (expr-reads written (s .visible) h e) λ y u.
-          then (wanted (Reads functions written) int at y u) λ v u′.
-          kept (record { settled = u′; seen = h })
+      stmt-settled (T.emit at e) s written h = value int at e s h λ v u. kept (record { settled = u; seen = h })
       stmt-settled (T.run at x xs) s written h =
           then (exprs-read written (s .visible) h xs) λ es u.
           then (answers at x) λ f a.
