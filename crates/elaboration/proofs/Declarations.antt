@@ -26,16 +26,28 @@ pub record Callee (arity : List ℕ) (s : Signature) : Type 0 where
   pub few : length (s .parameters) ≤ most-parameters
 
 -- a list from place k on begins with n
-record Split (xs : List ℕ) (k n : ℕ) (ys : List ℕ) : Type 0 where
-  inside : k < length xs
-  first : getD xs k 0 ≡ n
-  others : drop (suc k) xs ≡ ys
+pub record Split {A : Type 0} (d : A) (xs : List A) (k : ℕ) (n : A) (ys : List A) : Type 0 where
+  pub inside : k < length xs
+  pub first : getD xs k d ≡ n
+  pub others : drop (suc k) xs ≡ ys
 
-split : (xs : List ℕ) (k n : ℕ) (ys : List ℕ) → drop k xs ≡ n ∷ ys → Split xs k n ys
-split [] zero n ys e = let l : 0 ≡ suc (length ys) = ap length e in absurd (omega (arith, l))
-split [] (suc k) n ys e = let l : 0 ≡ suc (length ys) = ap length e in absurd (omega (arith, l))
-split (x ∷ xs) zero n ys e = record { inside = omega arith; first = ap (λ (l : List ℕ). getD l 0 0) e; others = ap (drop 1) e }
-split (x ∷ xs) (suc k) n ys e = let s = split xs k n ys e in record { inside = omega (arith, s .inside); first = s .first; others = s .others }
+pub split : {A : Type 0} (d : A) (xs : List A) (k : ℕ) (n : A) (ys : List A) → drop k xs ≡ n ∷ ys → Split d xs k n ys
+split d [] zero n ys e = let l : 0 ≡ suc (length ys) = ap length e in absurd (omega (arith, l))
+split d [] (suc k) n ys e = let l : 0 ≡ suc (length ys) = ap length e in absurd (omega (arith, l))
+split {A} d (x ∷ xs) zero n ys e = record { inside = omega arith; first = ap (λ (l : List A). getD l 0 d) e; others = ap (drop 1) e }
+split d (x ∷ xs) (suc k) n ys e = let s = split d xs k n ys e in record { inside = omega (arith, s .inside); first = s .first; others = s .others }
+
+-- what is found by its name is one of those that are declared
+module _ {A : Type 0} (P : A → Type 0) (is : Thing → Option A) (Fine : Thing → Type 0) (at : Place) (fine : (t : Thing) → Fine t → All P (found (is t) at)) where
+  pub found-fine : (gs : List Global) → Each (λ g. Fine (g .thing)) gs → (x : Name) → All P (found (andThen (globalOf gs x) (λ g. is (g .thing))) at)
+  unfolding globalOf found
+  found-fine [] Each.none x = broken
+  found-fine (g ∷ gs) (Each.more h hs) x = go (sameName (g .name) x) (fine (g .thing) h) (found-fine gs hs x)
+    where
+      go : (b : Bool) → All P (found (is (g .thing)) at) → All P (found (andThen (globalOf gs x) (λ g. is (g .thing))) at) →
+          All P (found (andThen (pick b (some g) (globalOf gs x)) (λ g. is (g .thing))) at)
+      go true p q = p
+      go false p q = q
 
 abbrev pub Within : ℕ → Array → Type 0
 Within elements a = a .offset + a .size ≤ elements
@@ -47,19 +59,6 @@ module _ (arity : List ℕ) where
 
   abbrev pub AllKnown : ℕ → List Global → Type 0
   AllKnown elements gs = Each (λ g. Known elements (g .thing)) gs
-
-  -- what is found by its name
-
-  module _ {A : Type 0} (P : A → Type 0) (is : Thing → Option A) (elements : ℕ) (at : Place) (fine : (t : Thing) → Known elements t → All P (found (is t) at)) where
-    found-known : (gs : List Global) → AllKnown elements gs → (x : Name) → All P (found (andThen (globalOf gs x) (λ g. is (g .thing))) at)
-    unfolding globalOf found
-    found-known [] Each.none x = broken
-    found-known (g ∷ gs) (Each.more h hs) x = go (sameName (g .name) x) (fine (g .thing) h) (found-known gs hs x)
-      where
-        go : (b : Bool) → All P (found (is (g .thing)) at) → All P (found (andThen (globalOf gs x) (λ g. is (g .thing))) at) →
-            All P (found (andThen (pick b (some g) (globalOf gs x)) (λ g. is (g .thing))) at)
-        go true p q = p
-        go false p q = q
 
   as-array : (elements : ℕ) (at : Place) (t : Thing) → Known elements t → All (Within elements) (found (isArray t) at)
   unfolding found
@@ -73,11 +72,11 @@ module _ (arity : List ℕ) where
 
   pub array-known : {elements : ℕ} {gs : List Global} → AllKnown elements gs → (at : Place) (x : Name) → All (Within elements) (arrayOf gs at x)
   unfolding arrayOf
-  array-known {elements} {gs} h at x = found-known (Within elements) isArray elements at (as-array elements at) gs h x
+  array-known {elements} {gs} h at x = found-fine (Within elements) isArray (Known elements) at (as-array elements at) gs h x
 
   pub function-known : {elements : ℕ} {gs : List Global} → AllKnown elements gs → (at : Place) (x : Name) → All (Callee arity) (functionOf gs at x)
   unfolding functionOf
-  function-known {elements} {gs} h at x = found-known (Callee arity) isFunction elements at (as-function elements at) gs h x
+  function-known {elements} {gs} h at x = found-fine (Callee arity) isFunction (Known elements) at (as-function elements at) gs h x
 
   -- "There is a function `main` without parameters"
   pub record Main (m : ℕ) : Type 0 where
@@ -121,7 +120,7 @@ module _ (arity : List ℕ) where
       then (needed at) λ _ e.
       kept (record { known = Each.more (omega arith) (more-elements (omega arith) (h .known)); few = leb-true _ _ e; rest = h .rest })
   one-known (function at x ps r b) is d h =
-      let s = split arity (d .functions) (length ps) (arities is) (h .rest) in
+      let s = split 0 arity (d .functions) (length ps) (arities is) (h .rest) in
       then (needed at) λ _ _.
       then (needed at) λ _ _.
       then (needed at) λ _ e.

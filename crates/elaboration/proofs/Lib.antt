@@ -12,5 +12,11 @@ pub mod Statements
 pub mod Functions
 pub mod Locals
 pub mod Programs
+pub mod Returning
+pub mod Results
+pub mod Settling
+pub mod Settled
+pub mod Alike
+pub mod Unseen
 pub mod Accepted
 pub mod Kept

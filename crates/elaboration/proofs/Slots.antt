@@ -13,12 +13,13 @@ use Rattle.elaboration.proofs.All.{All, kept, broken, Each}
 abbrev pub Visible : ℕ → List Local → Type 0
 Visible n ls = Each (λ l. l .slot < n) ls
 
-pub local-seen : {n : ℕ} {ls : List Local} → Visible n ls → (at : Place) (x : Name) → All (λ l. l .slot < n) (found (localOf ls x) at)
+-- a local that is found is one of those that are visible
+pub local-seen : {P : Local → Type 0} {ls : List Local} → Each P ls → (at : Place) (x : Name) → All P (found (localOf ls x) at)
 unfolding localOf found
 local-seen Each.none at x = broken
-local-seen {n} (Each.more {a = l} {xs = ls} h hs) at x = go (sameName (l .name) x) (local-seen hs at x)
+local-seen {P} (Each.more {a = l} {xs = ls} h hs) at x = go (sameName (l .name) x) (local-seen hs at x)
   where
-    go : (b : Bool) → All (λ k. k .slot < n) (found (localOf ls x) at) → All (λ k. k .slot < n) (found (pick b (some l) (localOf ls x)) at)
+    go : (b : Bool) → All P (found (localOf ls x) at) → All P (found (pick b (some l) (localOf ls x)) at)
     go true r = kept h
     go false r = r
 
