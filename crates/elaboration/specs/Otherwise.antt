@@ -1,5 +1,5 @@
 -- Runs of document 01 §5 with two choices that no sentence of it makes, made otherwise: what the lets of an activation start at, and what stands for
--- the value of a function that comes to its end without one. `language/specs/Meaning.antt` takes 0 for both.
+-- the value of a function that runs off the end of its body. `language/specs/Meaning.antt` takes 0 for both.
 use Prim.Native.Nat.{ℕ, zero, suc}
 use mathlib.Core.List.{List, [], _++_}
 use mathlib.Core.Path.{_≡_}
