@@ -2,20 +2,17 @@
 // a log. Four functions: check a text, run it (interpret), compile it to an image for the panel's processor (RV32IM), run an image (emulate). An image
 // does what its text does, and all four are proved: `rt staticlib doorlang_c` does that and writes target/staticlib/libdoorlang_c.a, for x86-64.
 //
-//     static uint32_t tokens[DOORLANG_TOKENS], tree[DOORLANG_TREE], starts[DOORLANG_STARTS], core[DOORLANG_CORE];
+//     #define WORK tokens, DOORLANG_TOKENS, tree, DOORLANG_TREE, starts, DOORLANG_STARTS, core, DOORLANG_CORE
+//     static uint32_t tokens[DOORLANG_TOKENS], tree[DOORLANG_TREE], starts[DOORLANG_STARTS], core[DOORLANG_CORE], registers[DOORLANG_REGISTERS], log[8];
 //     static uint8_t image[DOORLANG_CODE], input[4 * DOORLANG_ELEMENTS], memory[DOORLANG_MEMORY];
 //     static const uint8_t text[] = "var smoke: int[2]; fn main() { if smoke[0] >= 70 { smoke[1] = 1; emit 100; } }";
-//     uint32_t registers[DOORLANG_REGISTERS], log[8], stop, number, pc, answer;
 //     size_t place, elements, size, logged, length = sizeof text - 1;
+//     uint32_t stop, number, pc, answer = doorlang_check(text, length, WORK, &place, &elements);
 //     uint64_t steps;
-//     input[0] = 99; // the first element of the first array; each is a word of four bytes, the lowest first
-//     answer = doorlang_check(text, length, tokens, DOORLANG_TOKENS, tree, DOORLANG_TREE, starts, DOORLANG_STARTS, core, DOORLANG_CORE, &place, &elements);
-//     if (answer == 0)
-//         answer = doorlang_compile(text, length, image, sizeof image, tokens, DOORLANG_TOKENS, tree, DOORLANG_TREE, starts, DOORLANG_STARTS, core,
-//                                   DOORLANG_CORE, &size, &place);
-//     if (answer == 0)
-//         answer = doorlang_emulate(image, size, input, 4 * elements, memory, sizeof memory, registers, DOORLANG_REGISTERS, log, 8, 8, 1000000, &stop,
-//                                   &number, &pc, &steps, &logged);
+//     input[0] = 99; // the lowest byte of the first element
+//     if (answer == 0) answer = doorlang_compile(text, length, image, sizeof image, WORK, &size, &place);
+//     if (answer == 0) answer = doorlang_emulate(image, size, input, 4 * elements, memory, sizeof memory, registers, DOORLANG_REGISTERS, log, 8, 8,
+//                                                1000000, &stop, &number, &pc, &steps, &logged);
 //
 // Then stop is DOORLANG_EXIT, the log is 100, and memory[DOORLANG_ARRAYS + 4] is 1. Had the answer been 1 or 2, `place` would be the byte at fault.
 //
@@ -25,7 +22,8 @@
 // - The answer is returned, and what else is told is written through the last pointers, the figures. `place` is written where the answer is 1 or 2, and
 //   only there; the other figures where the answer is 0, and only there.
 // - On a refusal, which is any answer but 0, the buffers stay as they were, working room apart. On 0, what lies beyond a result in its buffer does.
-// - Nothing is allocated, and nothing is kept from one call to the next: threads may call at once, each with buffers of its own. Give each 2 MB of stack.
+// - Nothing is allocated, and nothing is kept from one call to the next: threads may call at once, each with buffers of its own. Give each 2 MB of
+//   stack: the deepest run tried took less than half of that, which is measured and not proved.
 #ifndef DOORLANG_H
 #define DOORLANG_H
 
@@ -76,8 +74,8 @@ uint32_t doorlang_check(const uint8_t *text, size_t text_size, uint32_t *tokens,
                         size_t starts_size, uint32_t *core, size_t core_size, size_t *place, size_t *elements);
 
 // The run of a text. `input` is the input block: all arrays in order of declaration, four bytes for each element, the lowest first. `fuel` bounds the
-// run: each statement and each operation costs 1. The log takes `room` words at most, and `log_size` is at least that; `arrays_size` is at least the
-// number of elements. Answers 0, 1, 2, 5 and 6.
+// run: each statement, and each number, name, operator and call of an expression, costs 1. The log takes `room` words at most, and `log_size` is at
+// least that; `arrays_size` is at least the number of elements. Answers 0, 1, 2, 5 and 6.
 // Gives: in `arrays` and `log`, as words in two's complement, the arrays' elements after the run and what was emitted; `outcome`, how it ended; `number`,
 // that of the trap, or 0; `fuel_left`; `logged`, how many words were emitted; `place`, as doorlang_check does.
 uint32_t doorlang_interpret(const uint8_t *text, size_t text_size, const uint8_t *input, size_t input_size, uint32_t *arrays, size_t arrays_size,
@@ -85,9 +83,9 @@ uint32_t doorlang_interpret(const uint8_t *text, size_t text_size, const uint8_t
                             size_t tree_size, uint32_t *starts, size_t starts_size, uint32_t *core, size_t core_size, uint32_t *outcome,
                             uint32_t *number, uint64_t *fuel_left, size_t *logged, size_t *place);
 
-// The image of a text: code for the panel's processor. It never faults, and where the text's run ends, the image's run ends in the same way with the
-// same log and arrays, in at most 256 steps for each unit of fuel used and 96 besides. A buffer of DOORLANG_CODE bytes is always long enough, unless no
-// buffer is. Answers 0, 1, 2, 3 and 6.
+// The image of a text: code for the panel's processor. On an input block of the text it never faults; and where the text's run finishes or traps, the
+// image's run with the same block and log room exits or traps alike, with the same log and arrays, in at most 256 steps for each unit of fuel used and
+// 96 besides. A buffer of DOORLANG_CODE bytes is long enough for every image. Answers 0, 1, 2, 3 and 6.
 // Gives: the image, at the start of its buffer; `size`, its length in bytes; `place`, as doorlang_check does.
 uint32_t doorlang_compile(const uint8_t *text, size_t text_size, uint8_t *image, size_t image_size, uint32_t *tokens, size_t tokens_size, uint32_t *tree,
                           size_t tree_size, uint32_t *starts, size_t starts_size, uint32_t *core, size_t core_size, size_t *size, size_t *place);
