@@ -1,37 +1,22 @@
--- What the entries tell a program in C: an answer, and figures of what was done.
+-- What the entries tell a program in C: an answer, and figures, which stand where its pointers lead.
 use Prim.Native.Nat.{ℕ}
 use mathlib.Core.Path.{_≡_}
-use mathlib.Core.List.{List}
-use Rattle.emulator.specs.declared.run.Ended.{Ended}
-use Rattle.emulator_c.specs.Told.{stopOf, numberOf}
-use Rattle.toolchain.specs.Emulation.{Buffers, Emulates}
-use Rattle.toolchain.specs.declared.Outcome.{Outcome}
-use Rattle.toolchain.specs.declared.Outcome.the-variants.{Refused, Ran}
+use lib.Dec.{eqb}
+use Rattle.word.specs.Choice.{pick, either}
 
--- how a run ended
-pub record Figures : Type 0 where
-  pub stop : ℕ
-  pub number : ℕ
-  pub pc : ℕ
-  pub steps : ℕ
-  pub logged : ℕ
+pub record Told (F : Type 0) : Type 0 where
+  pub answer : ℕ
+  pub figures : F
 
-abbrev pub figuresOf : Ended → Figures
-figuresOf e = record {
-  stop = stopOf (e .status);
-  number = numberOf (e .status);
-  pc = e .pc;
-  steps = e .steps;
-  logged = e .logged;
-}
+abbrev pub told : {F : Type 0} → ℕ → F → Told F
+told n f = record { answer = n; figures = f }
 
--- a refusal is its number, with the figures as they were; a run is 0 and its figures
-unfoldable pub Told : Figures → Figures → ℕ → Outcome → Type 0
-Told before after answer (Refused n) = (answer ≡ n) × (after ≡ before)
-Told before after answer (Ran e) = (answer ≡ 0) × (after ≡ figuresOf e)
+-- What is told is what the figures before and the outcome of the tool chain's entry make it, and that outcome is one that the entry's contract allows.
+pub record Tells {O F : Type 0} (Answers : O → Type 0) (toldOf : F → O → Told F) (was : F) (is : Told F) : Type 0 where
+  pub outcome : O
+  pub answers : Answers outcome
+  pub tells : is ≡ toldOf was outcome
 
--- the answer and the figures are those of what `emulate` answers
-pub record Tells (code input : List ℕ) (room limit : ℕ) (before after : Buffers) (was is : Figures) (answer : ℕ) : Type 0 where
-  pub outcome : Outcome
-  pub emulates : Emulates code input room limit before after outcome
-  pub told : Told was is answer outcome
+-- where the text is refused (document 01 §1), the place at fault; else the place as it was
+unfoldable pub placeOf : ℕ → ℕ → ℕ → ℕ
+placeOf answer at was = pick (either (eqb answer 1) (eqb answer 2)) at was

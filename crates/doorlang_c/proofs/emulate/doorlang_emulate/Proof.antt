@@ -1,8 +1,7 @@
--- `doorlang_emulate` meets its contract: the outcome is what `emulate` answers.
-use mathlib.Core.Path.{refl}
-use Rattle.doorlang_c.specs.Told.{Told}
-use Rattle.doorlang_c.proofs.doorlang_emulate.Statement.{statement}
-use Rattle.doorlang_c.proofs.doorlang_emulate.Tie as tie
+-- `doorlang_emulate` meets its contract: it tells what `emulate` answers.
+use Rattle.doorlang_c.specs.Emulation.{emulated}
+use Rattle.doorlang_c.proofs.emulate.doorlang_emulate.Statement.{statement}
+use Rattle.doorlang_c.proofs.emulate.doorlang_emulate.Tie as tie
 use borrow.Author.Needs.{needs}
 
 emulate-requires : tie.Need-emulate-requires
@@ -30,8 +29,8 @@ same-length-3 : tie.Need-same-length-3
 same-length-3 c = search needs
 
 returns : tie.Need-returns
-unfolding Told
-returns c = record { outcome = c .before .before .before .before .before .before .before .before .before .emulate .result; emulates = c .before .before .before .before .before .before .before .before .before .emulate .ensures; told = rw (c .before .o .given .1) (refl, refl) }
+unfolding emulated
+returns c = record { outcome = c .before .before .before .before .before .before .before .before .before .emulate .result; answers = c .before .before .before .before .before .before .before .before .before .emulate .ensures; tells = rw (c .before .o .given .1) }
 
 same-length-4 : tie.Need-same-length-4
 same-length-4 c = search needs
@@ -43,8 +42,8 @@ same-length-6 : tie.Need-same-length-6
 same-length-6 c = search needs
 
 returns-2 : tie.Need-returns-2
-unfolding Told
-returns-2 c = record { outcome = c .before .before .before .before .before .before .before .before .before .before .before .emulate .result; emulates = c .before .before .before .before .before .before .before .before .before .before .before .emulate .ensures; told = rw (c .before .before .before .o2 .given .1) (refl, rw (c .before .stop .ensures, c .number-of .ensures)) }
+unfolding emulated
+returns-2 c = record { outcome = c .before .before .before .before .before .before .before .before .before .before .before .emulate .result; answers = c .before .before .before .before .before .before .before .before .before .before .before .emulate .ensures; tells = rw (c .before .before .before .o2 .given .1, c .before .stop .ensures, c .number-of .ensures) }
 
 pub doorlang-emulate-spec : {M : Type 1} → statement M
 doorlang-emulate-spec = tie.close (tie.spec emulate-requires enum-known-o enum-known-o-2 stop-requires number-of-requires same-length same-length-2 same-length-3 returns same-length-4 same-length-5 same-length-6 returns-2)
