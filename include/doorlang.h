@@ -68,13 +68,14 @@ enum { DOORLANG_GOING, DOORLANG_EXIT, DOORLANG_TRAP, DOORLANG_FAULT, DOORLANG_LI
 enum { DOORLANG_DIVISION = 1, DOORLANG_INDEX = 2, DOORLANG_CALLS = 3, DOORLANG_LOG_FULL = 4 };
 
 // Is this text a rule program? Lent is working room. Answers 0, 1, 2 and 6.
-// Gives: `place`, the byte at which a refused text is at fault, counted from 0 (text_size where it ends too soon, DOORLANG_TEXT where it is too long);
+// Gives: `place`, the byte at which a refused text is at fault, counted from 0 (text_size where it ends too soon or has no `main`,
+// DOORLANG_TEXT where it is too long);
 // `elements`, how many the arrays of an accepted one have together: its input block is four times so many bytes.
 uint32_t doorlang_check(const uint8_t *text, size_t text_size, uint32_t *tokens, size_t tokens_size, uint32_t *tree, size_t tree_size, uint32_t *starts,
                         size_t starts_size, uint32_t *core, size_t core_size, size_t *place, size_t *elements);
 
 // The run of a text. `input` is the input block: all arrays in order of declaration, four bytes for each element, the lowest first. `fuel` bounds the
-// run: each statement, and each number, name, operator and call of an expression, costs 1. The log takes `room` words at most, and `log_size` is at
+// run: each statement, and each number, truth, name, operator and call of an expression, costs 1. The log takes `room` words at most, and `log_size` is at
 // least that; `arrays_size` is at least the number of elements. Answers 0, 1, 2, 5 and 6.
 // Gives: in `arrays` and `log`, as words in two's complement, the arrays' elements after the run and what was emitted; `outcome`, how it ended; `number`,
 // that of the trap, or 0; `fuel_left`; `logged`, how many words were emitted; `place`, as doorlang_check does.
