@@ -104,6 +104,8 @@ def number_rows():
         yield row("%s much too large" % option, "exec i %s %s" % (option, "9" * 300), {"i": EXIT}, USAGE, "", "the most is")
         for wrong in ("x", "12x", "-1", "+1", "1.5", "0x10"):
             yield row("%s %s" % (option, wrong), "exec i %s %s" % (option, wrong), {"i": EXIT}, USAGE, "", option + " " + wrong, "no decimal number")
+    yield row("--fuel too large", "compare t --fuel %d" % (2**64), {"t": GCD}, USAGE, "", "--fuel", "the most is %d" % (2**64 - 1))
+    yield row("--fuel that is no number", "compare t --fuel x", {"t": GCD}, USAGE, "", "--fuel x", "no decimal number")
     for title, text, said in (("a word", b"1 2 three", "number 3 is not a decimal"), ("a dash", b"1 - 2", "number 2 is not a decimal"),
                               ("two dashes", b"--1", "number 1 is not a decimal"), ("a dash inside", b"1-2", "number 1 is not a decimal"),
                               ("a plus", b"+1", "number 1 is not a decimal"), ("a fraction", b"1.5", "number 1 is not a decimal"),
@@ -120,7 +122,9 @@ def usage_rows():
                                     ("an unknown option", "exec i --loud 3", "no such option", "--loud"), ("a short option", "exec -i", "no such option", "-i"),
                                     ("an option of another command", "exec i --fuel 3", "no such option", "--fuel"), ("an option twice", "exec i --room 1 --room 1", "twice", "--room"),
                                     ("no value", "exec i --limit", "no value", "--limit"), ("input and block", "exec i --input a --block b", "--input and --block"),
-                                    ("one file for build", "build i", "lacks a file"), ("help with a file", "help i", "a file more", "i"), ("help with an option", "help --room 3", "no such option", "--room"),
+                                    ("one file for build", "build i", "lacks a file"), ("no file for compare", "compare", "lacks a file"), ("two files for compare", "compare i j", "a file more", "j"),
+                                    ("a limit for compare", "compare i --limit 3", "no such option", "--limit"), ("a memory for compare", "compare i --memory m", "no such option", "--memory"),
+                                    ("input and block for compare", "compare i --input a --block b", "--input and --block"), ("help with a file", "help i", "a file more", "i"), ("help with an option", "help --room 3", "no such option", "--room"),
                                     ("many arguments", "exec" + " i" * 40, "more arguments")):
         yield row(title, arguments, {"i": EXIT, "j": EXIT}, USAGE, "", *said, "usage: doorlang")
     yield "an empty name", ["exec", ""], {}, USAGE, "", ("cannot read",)
@@ -134,6 +138,8 @@ def file_rows():
     yield row("a missing input", "exec i --input none", {"i": EXIT}, USAGE, "", "cannot read none")
     yield row("a folder as input", "exec i --input .", {"i": EXIT}, USAGE, "", "cannot read .")
     yield row("a missing block", "exec i --block none", {"i": EXIT}, USAGE, "", "cannot read none")
+    yield row("a missing text", "compare none", {}, USAGE, "", "cannot read none", "No such file")
+    yield row("a missing input of a text", "compare t --input none", {"t": GCD}, USAGE, "", "cannot read none")
     yield row("an endless image", "exec /dev/zero", {}, REFUSED, "answer: 4\n")
     yield row("memory that cannot be written", "exec i --memory none/m", {"i": EXIT}, USAGE, "", "cannot write none/m")
     yield row("memory on a full device", "exec i --memory /dev/full", {"i": EXIT}, USAGE, "", "cannot write /dev/full")
@@ -166,6 +172,10 @@ RUNS = (
     ("65 activations", main_of(b"emit f(63);", DEPTH), "", "trap 3", "", "", 696),
 )
 
+# A text whose image is too long: seven operands wait in registers, which each call saves and restores.
+WAITING = b"t * t + (" * 7
+LONG_IMAGE = main_of(b"let t: int = 1; emit " + WAITING + b"f()" + b"+f()" * 16000 + b")" * 7 + b";", b"fn f(): int { return 1; }\n")
+
 # Document 01 section 6: texts that are refused, the answer, and the place that is said.
 REFUSALS = (
     ("a number too large", main_of(b"emit 2147483648;"), 1, "t:1:18"),
@@ -194,10 +204,14 @@ def lines(**values):
     return "".join("%s:%s\n" % (key.replace("_", "-"), " " + str(value) if value != "" else "") for key, value in values.items())
 
 
+# K and K0 of docs/CLAIMS.md.
+STEPS_FOR_FUEL, STEPS_BESIDES = 256, 96
+
+
 def text_rows():
     """Every answer to a text, and every vector of its run."""
     for title, text, answer, said in REFUSALS:
-        for command in ("check t", "run t", "build t i"):
+        for command in ("check t", "run t", "build t i", "compare t"):
             yield row("%s: %s" % (command, title), command, {"t": text}, REFUSED, "answer: %d\n" % answer, said)
     for title, text, arrays, outcome, log, after, fuel in RUNS:
         status = ACCEPTED if outcome == "finished" else STOPPED
@@ -210,10 +224,16 @@ def text_rows():
     yield row("run: out of fuel", "run t --fuel 1000", {"t": main_of(b"while true { }")}, STOPPED, lines(answer=0, outcome="out of fuel", fuel=1000, log="", arrays=""), "fuel")
     yield row("run: no fuel", "run t --fuel 0", {"t": main_of(b"emit 1;")}, STOPPED, lines(answer=0, outcome="out of fuel", fuel=0, log="", arrays=""))
     yield row("run: trap 4", "run t --room 2", {"t": main_of(b"emit 1; emit 2; emit 3;")}, STOPPED, lines(answer=0, outcome="trap 4", fuel=6, log="1 2", arrays=""), "full")
-    for title, numbers in (("too few", b"1 2 3 4 5"), ("too many", b"1 2 3 4 5 6 7"), ("none", b"")):
-        yield row("run: answer 5, " + title, "run t --input n", {"t": ZONES, "n": numbers}, REFUSED, "answer: 5\n", "input block")
-    yield row("run: answer 5, not whole words", "run t --block b", {"t": ZONES, "b": bytes(23)}, REFUSED, "answer: 5\n")
-    yield row("run: answer 1 before 5", "run t --block b", {"t": b"@", "b": bytes(3)}, REFUSED, "answer: 1\n")
+    for command in ("run", "compare"):
+        for title, numbers in (("too few", b"1 2 3 4 5"), ("too many", b"1 2 3 4 5 6 7"), ("none", b"")):
+            yield row("%s: answer 5, %s" % (command, title), command + " t --input n", {"t": ZONES, "n": numbers}, REFUSED, "answer: 5\n", "input block")
+        yield row(command + ": answer 5, not whole words", command + " t --block b", {"t": ZONES, "b": bytes(23)}, REFUSED, "answer: 5\n")
+        yield row(command + ": answer 1 before 5", command + " t --block b", {"t": b"@", "b": bytes(3)}, REFUSED, "answer: 1\n")
+    for command in ("build t i", "compare t"):
+        yield row(command + ": answer 3", command, {"t": LONG_IMAGE}, REFUSED, "answer: 3\n", "does not fit")
+    yield row("compare: answer 3 before 5", "compare t --block b", {"t": LONG_IMAGE, "b": bytes(3)}, REFUSED, "answer: 3\n")
+    yield row("compare: out of fuel", "compare t --fuel 1000", {"t": main_of(b"while true { }")}, STOPPED,
+              lines(answer=0, outcome="out of fuel", fuel=1000, log="", arrays="", image_stop="limit", image_steps=STEPS_FOR_FUEL * 1000 + STEPS_BESIDES, image_log="", image_arrays="", agree="yes"))
 
 
 def examples():
@@ -287,6 +307,44 @@ class Suite:
             got = run(self.program, folder, ["build", "t", "none/i"])
             self.judge("build: an image that cannot be written", got.returncode != USAGE and "status %d" % got.returncode, got.stdout and "wrote %r" % got.stdout)
 
+    def compared(self, title, files, options=""):
+        """compare writes the lines of run, then those of the image's run, which does the same."""
+        with tempfile.TemporaryDirectory() as folder:
+            for name, content in files.items():
+                with open(os.path.join(folder, name), "wb") as f:
+                    f.write(content)
+            ran = run(self.program, folder, ["run", "t", *options.split()])
+            got = run(self.program, folder, ["compare", "t", *options.split()])
+        own, both = ran.stdout.decode(), got.stdout.decode()
+        of = {key: value.strip() for key, value in (line.split(":", 1) for line in both.splitlines())}
+        image = lines(image_stop=of.get("image-stop", ""), image_steps=of.get("image-steps", ""), image_log=of.get("image-log", ""), image_arrays=of.get("image-arrays", ""), agree="yes")
+        if of.get("outcome") == "out of fuel":
+            same = "fault" not in of["image-stop"] and of["image-log"].split()[:len(of["log"].split())] == of["log"].split()
+        else:
+            same = [of.get(k) for k in ("outcome", "log", "arrays")] == [of.get(k, "").replace("exit", "finished") for k in ("image-stop", "image-log", "image-arrays")]
+        self.judge("compare: " + title,
+                   got.returncode != ran.returncode and "status %d, not %d" % (got.returncode, ran.returncode),
+                   both != own + image and "wrote %r" % both[:300],
+                   not same and "not the same: %r" % both[:300],
+                   int(of.get("image-steps", 0)) > STEPS_FOR_FUEL * int(of.get("fuel", 0)) + STEPS_BESIDES and "too many steps",
+                   got.stderr != ran.stderr + b"doorlang: t: the image does the same\n" and "said %r" % got.stderr)
+
+    def compares(self):
+        for title, text, arrays, *_ in RUNS:
+            self.compared(title, {"t": text, "n": arrays.encode()}, "--input n")
+        for name, text, numbers, _ in examples():
+            self.compared("example " + name, {"t": text, "n": numbers}, "--input n")
+            for fuel in (0, 1, 50):
+                self.compared("example %s, fuel %d" % (name, fuel), {"t": text, "n": numbers}, "--input n --fuel %d" % fuel)
+            for room in (0, 1):
+                self.compared("example %s, room %d" % (name, room), {"t": text, "n": numbers}, "--input n --room %d" % room)
+        self.compared("zeros", {"t": ZONES})
+        self.compared("a raw block", {"t": ZONES, "b": struct.pack("<6i", 99, 20, -1, 5, 0, 0)}, "--block b")
+        self.compared("no fuel, and an image that ends", {"t": main_of(b"emit 1;")}, "--fuel 0")
+        self.compared("the largest fuel", {"t": GCD}, "--fuel 18446744073709551615")
+        self.compared("trap 4 at a full log", {"t": main_of(b"emit 1; emit 2; emit 3;")}, "--room 2")
+        self.compared("the largest room", {"t": main_of(b"while true { emit 7; }")}, "--room 65536")
+
     def memory(self):
         """--memory writes the memory of document 03 section 1 after the run."""
         with tempfile.TemporaryDirectory() as folder:
@@ -304,9 +362,10 @@ class Suite:
     def full_output(self):
         """Standard output that cannot be written is no success."""
         with tempfile.TemporaryDirectory() as folder, open("/dev/full", "wb") as full:
-            with open(os.path.join(folder, "i"), "wb") as f:
-                f.write(EXIT)
-            for arguments in (["exec", "i"], ["help"]):
+            for name, content in (("i", EXIT), ("t", GCD)):
+                with open(os.path.join(folder, name), "wb") as f:
+                    f.write(content)
+            for arguments in (["exec", "i"], ["run", "t"], ["compare", "t"], ["help"]):
                 got = run(self.program, folder, arguments, stdout=full)
                 self.judge("%s with a full output" % arguments[0], got.returncode != USAGE and "status %d" % got.returncode)
 
@@ -322,6 +381,7 @@ def main(program):
             suite.row(*one)
     suite.memory()
     suite.builds()
+    suite.compares()
     suite.full_output()
     suite.help()
     print("%d passed, %d failed" % (suite.passed, suite.failed))

@@ -7,7 +7,7 @@ use lib.ListN.{getD, set}
 use Rattle.word.specs.Choice.{pick, both}
 use Rattle.language.specs.Tokens.{bytes, same, starts, is}
 use Rattle.console.specs.declared.arguments.Command.{Command}
-use Rattle.console.specs.declared.arguments.Command.the-variants.{Help, Check, Run, Build, Exec, Other}
+use Rattle.console.specs.declared.arguments.Command.the-variants.{Help, Check, Run, Build, Exec, Compare, Other}
 use Rattle.console.specs.declared.arguments.Seen.{Seen}
 
 unfoldable pub commandOf : List ℕ → Command
@@ -21,7 +21,10 @@ commandOf w =
     (pick
     (same w (bytes "run"))
     Run
-    (pick (same w (bytes "build")) Build (pick (same w (bytes "exec")) Exec Other))))
+    (pick
+    (same w (bytes "build"))
+    Build
+    (pick (same w (bytes "exec")) Exec (pick (same w (bytes "compare")) Compare Other)))))
 
 -- The places of what may be given: a place for each option, and for each of two files. A word that is no option's name is a file's, unless it
 -- begins with a dash: then it is unknown.
@@ -79,6 +82,7 @@ takesOf Check p = false
 takesOf Run p = runTakes p
 takesOf Build p = false
 takesOf Exec p = execTakes p
+takesOf Compare p = runTakes p
 takesOf Other p = false
 
 unfoldable pub filesOf : Command → ℕ
@@ -87,6 +91,7 @@ filesOf Check = 1
 filesOf Run = 1
 filesOf Build = 2
 filesOf Exec = 1
+filesOf Compare = 1
 filesOf Other = 0
 
 -- What is wrong with the arguments.

@@ -11,6 +11,7 @@ pub enum Command {
     Run,
     Build,
     Exec,
+    Compare,
     Other,
 }
 
@@ -103,6 +104,9 @@ pub fn command_of(word: &[u8]) -> Command
     if is_spelt(word, b"exec") {
         return Command::Exec;
     }
+    if is_spelt(word, b"compare") {
+        return Command::Compare;
+    }
     Command::Other
 }
 
@@ -167,6 +171,7 @@ fn takes(command: Command, place: usize) -> bool
         Command::Run => run_takes(place),
         Command::Build => false,
         Command::Exec => exec_takes(place),
+        Command::Compare => run_takes(place),
         Command::Other => false,
     }
 }
@@ -181,6 +186,7 @@ fn files(command: Command) -> usize
         Command::Run => 1,
         Command::Build => 2,
         Command::Exec => 1,
+        Command::Compare => 1,
         Command::Other => 0,
     }
 }

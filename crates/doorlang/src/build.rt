@@ -3,13 +3,10 @@ use crate::files;
 use crate::output;
 use crate::output::about;
 use crate::output::tell;
+use crate::rooms;
 use crate::texts;
 use console::arguments;
 use toolchain::compile::Compiled;
-
-fn image_room() -> [u8; 524288] {
-    [0; 524288]
-}
 
 // The image, of so many bytes, written; then the lines.
 fn built(given: &[usize], size: usize, image: &[u8]) -> u32 {
@@ -27,20 +24,18 @@ fn built(given: &[usize], size: usize, image: &[u8]) -> u32 {
     output::unwritten()
 }
 
+// What `compile` answers, with the image in its buffer; working room is free again afterwards.
+pub fn image_of(text: &[u8], image: &mut [u8]) -> Compiled {
+    let mut tokens = rooms::tokens_room();
+    let mut tree = rooms::tree_room();
+    let mut starts = rooms::starts_room();
+    let mut core = rooms::core_room();
+    toolchain::compile::compile(text, image, &mut tokens, &mut tree, &mut starts, &mut core)
+}
+
 fn compile(given: &[usize], text: &[u8]) -> u32 {
-    let mut image = image_room();
-    let mut tokens = texts::tokens_room();
-    let mut tree = texts::tree_room();
-    let mut starts = texts::starts_room();
-    let mut core = texts::core_room();
-    let c = toolchain::compile::compile(
-        text,
-        &mut image,
-        &mut tokens,
-        &mut tree,
-        &mut starts,
-        &mut core,
-    );
+    let mut image = rooms::image_room();
+    let c = image_of(text, &mut image);
     match c {
         Compiled::Refused(number, offset) => texts::refused(given, text, number, offset),
         Compiled::Image(n) => built(given, n, &image),
@@ -48,7 +43,7 @@ fn compile(given: &[usize], text: &[u8]) -> u32 {
 }
 
 pub fn build(given: &[usize]) -> u32 {
-    let mut text = texts::text_room();
+    let mut text = rooms::text_room();
     let t = files::read_file(arguments::given_for(given, arguments::FIRST), &mut text);
     if t.failed {
         return output::BAD_USAGE;

@@ -4,32 +4,15 @@ use crate::output;
 use crate::output::about;
 use crate::output::say;
 use crate::output::tell;
+use crate::rooms;
 use crate::values;
 use console::arguments;
 use emulator::run::Ended;
 use processor::Status;
 use toolchain::Outcome;
 
-// The buffers, each made by a function, so that a proof has its length and not its elements. One byte more than a run takes shows that a file is
-// too long.
-fn code_room() -> [u8; 524289] {
-    [0; 524289]
-}
-
-pub fn block_room() -> [u8; 1048577] {
-    [0; 1048577]
-}
-
-fn memory_room() -> [u8; 2097152] {
-    [0; 2097152]
-}
-
-pub fn log_room() -> [u32; 65536] {
-    [0; 65536]
-}
-
 // How a run stopped.
-fn stop_line(key: &[u8], s: Status) {
+pub fn stop_line(key: &[u8], s: Status) {
     say(key);
     match s {
         Status::Going => say(b" going"),
@@ -153,7 +136,7 @@ fn ran(
     show(given, e, size, memory, registers, log)
 }
 
-fn refused(given: &[usize], n: u32) -> u32 {
+pub fn refused(given: &[usize], n: u32) -> u32 {
     output::line(b"answer: ", n as u64);
     about(arguments::given_for(given, arguments::FIRST));
     tell_refusal(n);
@@ -161,9 +144,9 @@ fn refused(given: &[usize], n: u32) -> u32 {
 }
 
 fn run(given: &[usize], code: &[u8], input: &[u8], room: usize, limit: u64) -> u32 {
-    let mut memory = memory_room();
+    let mut memory = rooms::memory_room();
     let mut registers = [0u32; 32];
-    let mut log = log_room();
+    let mut log = rooms::log_room();
     let o = toolchain::emulate(
         code,
         input,
@@ -181,29 +164,21 @@ fn run(given: &[usize], code: &[u8], input: &[u8], room: usize, limit: u64) -> u
 
 // The image and the input block, read; then their run.
 fn load(given: &[usize], room: usize, limit: u64) -> u32 {
-    let mut code = code_room();
-    let mut block = block_room();
-    let c = files::read_file(arguments::given_for(given, arguments::FIRST), &mut code);
-    if c.failed {
+    let mut code = rooms::code_room();
+    let mut block = rooms::block_room();
+    let r = files::read_both(given, &mut code, &mut block);
+    if r.failed {
         return output::BAD_USAGE;
     }
-    let b = files::read_block(given, &mut block);
-    if b.failed {
-        return output::BAD_USAGE;
-    }
-    let n = c.size;
-    let k = b.size;
+    let n = r.first;
+    let k = r.block;
     run(given, &code[..n], &block[..k], room, limit)
 }
 
 pub fn exec(given: &[usize]) -> u32 {
-    let room = values::value_of(given, arguments::ROOM, values::ROOM, values::MOST_ROOM);
-    if room.failed {
+    let v = values::values_of(given, arguments::LIMIT, values::LIMIT);
+    if v.failed {
         return output::BAD_USAGE;
     }
-    let limit = values::value_of(given, arguments::LIMIT, values::LIMIT, values::MOST);
-    if limit.failed {
-        return output::BAD_USAGE;
-    }
-    load(given, room.number as usize, limit.number)
+    load(given, v.room, v.most)
 }

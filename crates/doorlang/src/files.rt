@@ -164,6 +164,33 @@ pub fn read_block(given: &[usize], block: &mut [u8]) -> Got
     }
 }
 
+// How many bytes stand in the buffers of the first file and of the input block, or that they could not be read.
+pub struct Both {
+    pub failed: bool,
+    pub first: usize,
+    pub block: usize,
+}
+
+// The file that a command is about, and its input block.
+pub fn read_both(given: &[usize], first: &mut [u8], block: &mut [u8]) -> Both
+    ensures { λ r. ⌜ (r .first ≤ length (now (first .entry))) × (r .block ≤ length (now (block .entry))) ⌝ }
+{
+    let f = read_file(arguments::given_for(given, arguments::FIRST), first);
+    if f.failed {
+        return Both {
+            failed: true,
+            first: 0,
+            block: 0,
+        };
+    }
+    let b = read_block(given, block);
+    Both {
+        failed: b.failed,
+        first: f.size,
+        block: b.size,
+    }
+}
+
 // Writes the file that argument i names: whether it could.
 pub fn write_file(i: usize, bytes: &[u8]) -> bool {
     let mut path = io::buffer();

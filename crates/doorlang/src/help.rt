@@ -12,6 +12,10 @@ pub fn usage(to: i32) -> bool {
         to,
         b"       doorlang build TEXT IMAGE\n       doorlang exec IMAGE [--input FILE | --block FILE] [--limit N] [--room N] [--memory FILE]\n",
     );
+    io::write_all(
+        to,
+        b"       doorlang compare TEXT [--input FILE | --block FILE] [--fuel N] [--room N]\n",
+    );
     io::write_all(to, b"       doorlang help\n")
 }
 
@@ -22,6 +26,7 @@ pub fn help() -> u32 {
     output::say(b"run      runs a rule program\n");
     output::say(b"build    compiles a rule program to an image\n");
     output::say(b"exec     runs an image on the panel processor\n");
+    output::say(b"compare  runs a rule program and its image, and says whether they agree\n");
     output::say(b"help     prints this\n\n");
     output::say(b"--input FILE   the arrays as text: decimal numbers between blanks\n");
     output::say(b"--block FILE   the arrays as raw words, lowest byte first\n");
@@ -30,7 +35,7 @@ pub fn help() -> u32 {
     output::say(b"--room N       the most numbers in the log (1000, at most 65536)\n");
     output::say(b"--memory FILE  writes the 2 MiB of memory after the run\n\n");
     if output::say(
-        b"Exit status: 0 accepted, finished or exit; 1 refused; 2 trap, fault, out of fuel or limit; 64 bad usage, or a file that cannot be read or written.\n",
+        b"Exit status: 0 accepted, finished or exit; 1 refused; 2 trap, fault, out of fuel, limit, or an image that does something else; 64 bad usage, or a file that cannot be read or written.\n",
     ) {
         return output::DONE;
     }

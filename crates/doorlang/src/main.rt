@@ -8,12 +8,14 @@ use output::tell;
 
 mod build; // the image of a text
 mod check; // the answer to a text
+mod compare; // the run of a text beside the run of its image
 mod exec; // the run of an image
 mod files; // files by the arguments that name them
 mod help; // how the program is used
 mod output; // lines, sentences and the status
+mod rooms; // the buffers
 mod run; // the run of a text
-mod texts; // a text, its working room and its refusal
+mod texts; // a text, its input block and its refusal
 mod values; // the numbers that options give
 
 // The most arguments: more than any command takes.
@@ -53,6 +55,7 @@ fn perform(command: Command, given: &[usize]) -> u32 {
         Command::Run => run::run(given),
         Command::Build => build::build(given),
         Command::Exec => exec::exec(given),
+        Command::Compare => compare::compare(given),
         Command::Other => output::BAD_USAGE,
     }
 }
@@ -106,6 +109,7 @@ fn command(count: usize, table: &mut [usize], given: &mut [usize]) -> u32
         Command::Run => (),
         Command::Build => (),
         Command::Exec => (),
+        Command::Compare => (),
     }
     let long = places(count, table);
     if long != 0 {

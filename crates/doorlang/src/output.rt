@@ -1,5 +1,7 @@
 // What the program says: lines `key: value` on standard output, sentences on standard error, and its status on descriptor 3, where the
 // launcher reads it, since a program has no other.
+ghost use mathlib.Core.Path.{_≡_};
+ghost use Rattle.processor.specs.Machine.{data-start};
 use console::shown;
 use libc::STDERR_FILENO;
 use libc::STDOUT_FILENO;
@@ -15,9 +17,6 @@ pub const STOPPED: u32 = 2;
 pub const BAD_USAGE: u32 = 64;
 
 const STATUS_FILENO: i32 = 3;
-
-// Where the input block lies in memory.
-const ARRAYS: usize = 0x100000;
 
 fn wide(n: u32) -> u64 {
     n as u64
@@ -116,10 +115,17 @@ fn memory_word(memory: &[u8], at: usize) -> u32 {
     0
 }
 
+// Where the input block lies in memory: named, so that a part of it is proved with no count up to it.
+pub fn arrays_start() -> usize
+    ensures { λ r. ⌜ r ≡ data-start ⌝ }
+{
+    0x100000
+}
+
 // So many words of the arrays, in memory.
 pub fn arrays_line(key: &[u8], memory: &[u8], count: usize) {
     say(key);
-    let mut at = ARRAYS;
+    let mut at = arrays_start();
     let mut i: usize = 0;
     while i < count {
         if at < memory.len() {

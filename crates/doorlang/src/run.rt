@@ -1,5 +1,6 @@
 // `doorlang run`: the run of a text by the interpreter.
-ghost use Prim.Native.Nat.{_≤_};
+ghost use mathlib.Core.Path.{_≡_};
+ghost use Prim.Native.Nat.{_≤_, _-_};
 ghost use lib.ListN.{length};
 use crate::exec;
 use crate::files;
@@ -7,16 +8,13 @@ use crate::output;
 use crate::output::about;
 use crate::output::say;
 use crate::output::tell;
+use crate::rooms;
 use crate::texts;
 use crate::values;
 use console::arguments;
 use interpreter::Outcome;
 use interpreter::Ran;
 use toolchain::interpret::Interpreted;
-
-fn arrays_room() -> [u32; 16384] {
-    [0; 16384]
-}
 
 fn outcome_line(o: Outcome) {
     say(b"outcome:");
@@ -32,7 +30,9 @@ fn outcome_line(o: Outcome) {
     say(b"\n");
 }
 
-fn tell_outcome(o: Outcome) {
+// What became of the program, for people.
+pub fn tell_outcome(given: &[usize], o: Outcome) {
+    about(arguments::given_for(given, arguments::FIRST));
     match o {
         Outcome::Finished => {
             tell(b"the program finished\n");
@@ -44,7 +44,7 @@ fn tell_outcome(o: Outcome) {
     }
 }
 
-fn status_of(o: Outcome) -> u32 {
+pub fn status_of(o: Outcome) -> u32 {
     match o {
         Outcome::Finished => output::DONE,
         Outcome::Trapped(_) => output::STOPPED,
@@ -52,45 +52,62 @@ fn status_of(o: Outcome) -> u32 {
     }
 }
 
-fn used(fuel: u64, left: u64) -> u64 {
+pub fn used(fuel: u64, left: u64) -> u64
+    ensures { λ r. ⌜ r ≡ fuel - left ⌝ }
+{
     if left <= fuel { fuel - left } else { 0 }
 }
 
-// The lines of a run; `size` is that of the input block.
-fn show(given: &[usize], r: Ran, fuel: u64, size: usize, arrays: &[u32], log: &[u32]) -> u32 {
+// The lines of a run, and whether they could be written; `size` is that of the input block.
+pub fn lines(r: Ran, fuel: u64, size: usize, arrays: &[u32], log: &[u32]) -> bool {
     let o = r.outcome;
     let logged = r.logged;
     output::line(b"answer: ", 0);
     outcome_line(o);
     output::line(b"fuel: ", used(fuel, r.fuel));
     output::log_line(b"log:", log, logged);
-    if output::log_line(b"arrays:", arrays, size / 4) {
-        about(arguments::given_for(given, arguments::FIRST));
-        tell_outcome(o);
+    output::log_line(b"arrays:", arrays, size / 4)
+}
+
+fn show(given: &[usize], r: Ran, fuel: u64, size: usize, arrays: &[u32], log: &[u32]) -> u32 {
+    if lines(r, fuel, size, arrays, log) {
+        let o = r.outcome;
+        tell_outcome(given, o);
         return status_of(o);
     }
     output::unwritten()
 }
 
-// The run, in working room that is lent.
+// What `interpret` answered, and the size of the input block that it was given.
+pub struct Answered {
+    pub said: Interpreted,
+    pub size: usize,
+}
+
+// The run on a block, of which `size` bytes are given.
 fn interpret(
     given: &[usize],
     text: &[u8],
-    input: &[u8],
+    block: &[u8],
+    size: usize,
     room: usize,
     fuel: u64,
+    arrays: &mut [u32],
+    log: &mut [u32],
     tokens: &mut [u32],
     tree: &mut [u32],
     starts: &mut [u32],
     core: &mut [u32],
-) -> u32 {
-    let mut arrays = arrays_room();
-    let mut log = exec::log_room();
-    let i = toolchain::interpret::interpret(
+) -> Answered
+    requires { ⌜ size ≤ length (now block) ⌝ }
+    ensures { λ r. ⌜ r .size ≤ length (now (block .entry)) ⌝ }
+{
+    let n = texts::block_size(given, text, size, block.len(), tokens, tree, starts, core);
+    let said = toolchain::interpret::interpret(
         text,
-        input,
-        &mut arrays,
-        &mut log,
+        &block[..n],
+        arrays,
+        log,
         room,
         fuel,
         tokens,
@@ -98,75 +115,36 @@ fn interpret(
         starts,
         core,
     );
-    match i {
-        Interpreted::Refused(number, offset) => texts::refused(given, text, number, offset),
-        Interpreted::Ran(r) => show(given, r, fuel, input.len(), &arrays, &log),
-    }
+    Answered { said, size: n }
 }
 
-// The size of the input block: as it is given, or of zeros for the text.
-fn block_size(
-    given: &[usize],
-    text: &[u8],
-    size: usize,
-    most: usize,
-    tokens: &mut [u32],
-    tree: &mut [u32],
-    starts: &mut [u32],
-    core: &mut [u32],
-) -> usize
-    requires { ⌜ size ≤ most ⌝ }
-    ensures { λ r. ⌜ r ≤ most ⌝ }
-{
-    if files::has_block(given) {
-        return size;
-    }
-    texts::zeros_size(text, most, tokens, tree, starts, core)
-}
-
-// The run on a block, of which `size` bytes are given.
-fn in_rooms(
+// The same, in working room that is free again afterwards.
+pub fn answer_of(
     given: &[usize],
     text: &[u8],
     block: &[u8],
     size: usize,
     room: usize,
     fuel: u64,
-    tokens: &mut [u32],
-    tree: &mut [u32],
-    starts: &mut [u32],
-    core: &mut [u32],
-) -> u32
+    arrays: &mut [u32],
+    log: &mut [u32],
+) -> Answered
     requires { ⌜ size ≤ length (now block) ⌝ }
+    ensures { λ r. ⌜ r .size ≤ length (now (block .entry)) ⌝ }
 {
-    let n = block_size(given, text, size, block.len(), tokens, tree, starts, core);
+    let mut tokens = rooms::tokens_room();
+    let mut tree = rooms::tree_room();
+    let mut starts = rooms::starts_room();
+    let mut core = rooms::core_room();
     interpret(
-        given,
-        text,
-        &block[..n],
-        room,
-        fuel,
-        tokens,
-        tree,
-        starts,
-        core,
-    )
-}
-
-fn go(given: &[usize], text: &[u8], block: &[u8], size: usize, room: usize, fuel: u64) -> u32
-    requires { ⌜ size ≤ length (now block) ⌝ }
-{
-    let mut tokens = texts::tokens_room();
-    let mut tree = texts::tree_room();
-    let mut starts = texts::starts_room();
-    let mut core = texts::core_room();
-    in_rooms(
         given,
         text,
         block,
         size,
         room,
         fuel,
+        arrays,
+        log,
         &mut tokens,
         &mut tree,
         &mut starts,
@@ -174,30 +152,35 @@ fn go(given: &[usize], text: &[u8], block: &[u8], size: usize, room: usize, fuel
     )
 }
 
+fn go(given: &[usize], text: &[u8], block: &[u8], size: usize, room: usize, fuel: u64) -> u32
+    requires { ⌜ size ≤ length (now block) ⌝ }
+{
+    let mut arrays = rooms::arrays_room();
+    let mut log = rooms::log_room();
+    let a = answer_of(given, text, block, size, room, fuel, &mut arrays, &mut log);
+    let said = a.said;
+    match said {
+        Interpreted::Refused(number, offset) => texts::refused(given, text, number, offset),
+        Interpreted::Ran(r) => show(given, r, fuel, a.size, &arrays, &log),
+    }
+}
+
 // The text and the input block, read; then the run.
 fn load(given: &[usize], room: usize, fuel: u64) -> u32 {
-    let mut text = texts::text_room();
-    let mut block = exec::block_room();
-    let t = files::read_file(arguments::given_for(given, arguments::FIRST), &mut text);
-    if t.failed {
+    let mut text = rooms::text_room();
+    let mut block = rooms::block_room();
+    let r = files::read_both(given, &mut text, &mut block);
+    if r.failed {
         return output::BAD_USAGE;
     }
-    let b = files::read_block(given, &mut block);
-    if b.failed {
-        return output::BAD_USAGE;
-    }
-    let n = t.size;
-    go(given, &text[..n], &block, b.size, room, fuel)
+    let n = r.first;
+    go(given, &text[..n], &block, r.block, room, fuel)
 }
 
 pub fn run(given: &[usize]) -> u32 {
-    let room = values::value_of(given, arguments::ROOM, values::ROOM, values::MOST_ROOM);
-    if room.failed {
+    let v = values::values_of(given, arguments::FUEL, values::FUEL);
+    if v.failed {
         return output::BAD_USAGE;
     }
-    let fuel = values::value_of(given, arguments::FUEL, values::FUEL, values::MOST);
-    if fuel.failed {
-        return output::BAD_USAGE;
-    }
-    load(given, room.number as usize, fuel.number)
+    load(given, v.room, v.most)
 }

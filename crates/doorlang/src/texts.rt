@@ -1,38 +1,17 @@
-// A rule program's text: its file, working room for the entries, and what a refusal of it says.
-ghost use Prim.Native.Nat.{_≤_};
+// A rule program's text: how large its input block is, and what a refusal of it says.
+ghost use mathlib.Core.Path.{_≡_};
+ghost use Prim.Native.Nat.{_≤_, min};
+use crate::files;
 use crate::output;
 use crate::output::tell;
 use crate::output::tell_argument;
 use crate::output::tell_number;
 use console::arguments;
 use console::place;
-use flat::program::ELEMENTS;
-
-// One byte more than the longest text shows that a file is too long.
-pub fn text_room() -> [u8; 65537] {
-    [0; 65537]
-}
-
-// Working room, in words.
-pub fn tokens_room() -> [u32; 196608] {
-    [0; 196608]
-}
-
-pub fn tree_room() -> [u32; 524288] {
-    [0; 524288]
-}
-
-pub fn starts_room() -> [u32; 131072] {
-    [0; 131072]
-}
-
-pub fn core_room() -> [u32; 525315] {
-    [0; 525315]
-}
 
 // A number, or the most that there is.
 pub fn at_most(n: usize, most: usize) -> usize
-    ensures { λ r. ⌜ r ≤ most ⌝ }
+    ensures { λ r. ⌜ r ≡ min n most ⌝ }
 {
     if n < most { n } else { most }
 }
@@ -73,18 +52,8 @@ pub fn refused(given: &[usize], text: &[u8], number: u32, offset: usize) -> u32 
     output::REFUSED
 }
 
-fn count(n: u32) -> usize {
-    n as usize
-}
-
-// The elements of the arrays of a program, by its words.
-fn elements(core: &[u32]) -> usize {
-    let at = count(ELEMENTS);
-    if at < core.len() { count(core[at]) } else { 0 }
-}
-
 // The bytes of an input block of zeros for a text, within `most`; 0 where the text is refused, which its run then says.
-pub fn zeros_size(
+fn zeros_size(
     text: &[u8],
     most: usize,
     tokens: &mut [u32],
@@ -98,6 +67,26 @@ pub fn zeros_size(
     if a.number != 0 {
         return 0;
     }
-    let n = elements(core);
+    let n = a.elements;
     if n < most / 4 + 1 { 4 * n } else { most }
+}
+
+// The size of the input block: as it is given, or of zeros for the text.
+pub fn block_size(
+    given: &[usize],
+    text: &[u8],
+    size: usize,
+    most: usize,
+    tokens: &mut [u32],
+    tree: &mut [u32],
+    starts: &mut [u32],
+    core: &mut [u32],
+) -> usize
+    requires { ⌜ size ≤ most ⌝ }
+    ensures { λ r. ⌜ r ≤ most ⌝ }
+{
+    if files::has_block(given) {
+        return size;
+    }
+    zeros_size(text, most, tokens, tree, starts, core)
 }

@@ -7,9 +7,9 @@ use console::numbers;
 use console::numbers::Number;
 
 // The most words that a log may have, and what is taken where no option says otherwise.
-pub const MOST_ROOM: u64 = 65536;
+const MOST_ROOM: u64 = 65536;
 
-pub const ROOM: u64 = 1000;
+const ROOM: u64 = 1000;
 
 pub const FUEL: u64 = 1000000;
 
@@ -18,9 +18,9 @@ pub const LIMIT: u64 = 100000000;
 pub const MOST: u64 = 18446744073709551615;
 
 // A number, or that there is none.
-pub struct Value {
-    pub failed: bool,
-    pub number: u64,
+struct Value {
+    failed: bool,
+    number: u64,
 }
 
 fn given_number(i: usize, most: u64) -> Number {
@@ -40,7 +40,7 @@ fn tell_option(i: usize) {
 }
 
 // The number that is given for an option, at most `most`; the usual one where none is given.
-pub fn value_of(given: &[usize], place: usize, usual: u64, most: u64) -> Value {
+fn value_of(given: &[usize], place: usize, usual: u64, most: u64) -> Value {
     let i = arguments::given_for(given, place);
     if i == 0 {
         return Value {
@@ -72,5 +72,30 @@ pub fn value_of(given: &[usize], place: usize, usual: u64, most: u64) -> Value {
                 number: 0,
             }
         }
+    }
+}
+
+// The room of the log, and the most that a run may use of something: fuel or steps.
+pub struct Values {
+    pub failed: bool,
+    pub room: usize,
+    pub most: u64,
+}
+
+// The two numbers that the options of a run give: --room, and that of this place.
+pub fn values_of(given: &[usize], place: usize, usual: u64) -> Values {
+    let room = value_of(given, arguments::ROOM, ROOM, MOST_ROOM);
+    if room.failed {
+        return Values {
+            failed: true,
+            room: 0,
+            most: 0,
+        };
+    }
+    let most = value_of(given, place, usual, MOST);
+    Values {
+        failed: most.failed,
+        room: room.number as usize,
+        most: most.number,
     }
 }

@@ -37,6 +37,9 @@ enum-told-5 c = search needs
 enum-told-6 : tie.Need-enum-told-6
 enum-told-6 c = search needs
 
+enum-told-7 : tie.Need-enum-told-7
+enum-told-7 c = search needs
+
 places-requires : tie.Need-places-requires
 places-requires c κs = search needs
 
@@ -86,4 +89,4 @@ returns-4 : tie.Need-returns-4
 returns-4 c = search needs
 
 pub command-spec : {M : Type 1} → statement M
-command-spec = tie.close (tie.spec command-of-requires enum-told slice-aggregate-bad-usage bad-usage-requires returns enum-told-2 enum-told-3 enum-told-4 enum-told-5 enum-told-6 places-requires slice-aggregate-bad-usage-2 bad-usage-requires-2 same-length returns-2 slice-reshare-prefix-see-all slice-aggregate-see-all see-all-requires wrong-requires same-length-2 same-length-3 returns-3 perform-requires same-length-4 same-length-5 returns-4)
+command-spec = tie.close (tie.spec command-of-requires enum-told slice-aggregate-bad-usage bad-usage-requires returns enum-told-2 enum-told-3 enum-told-4 enum-told-5 enum-told-6 enum-told-7 places-requires slice-aggregate-bad-usage-2 bad-usage-requires-2 same-length returns-2 slice-reshare-prefix-see-all slice-aggregate-see-all see-all-requires wrong-requires same-length-2 same-length-3 returns-3 perform-requires same-length-4 same-length-5 returns-4)

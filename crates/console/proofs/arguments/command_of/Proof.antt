@@ -56,9 +56,19 @@ returns-5 : tie.Need-returns-5
 unfolding commandOf bytes
 returns-5 c = rw (sym (c .before .before .before .before .before .before .before .before .before .before .before .before .before .is-spelt .ensures) ∙ c .before .before .before .before .before .before .before .before .before .before .before .before .if1 .left, sym (c .before .before .before .before .before .before .before .before .before .before .is-spelt2 .ensures) ∙ c .before .before .before .before .before .before .before .before .before .if2 .left, sym (c .before .before .before .before .before .before .before .is-spelt3 .ensures) ∙ c .before .before .before .before .before .before .if3 .left, sym (c .before .before .before .before .is-spelt4 .ensures) ∙ c .before .before .before .if4 .left, sym (c .before .is-spelt5 .ensures) ∙ c .if5 .taken)
 
+slice-aggregate-is-spelt-6 : tie.Need-slice-aggregate-is-spelt-6
+slice-aggregate-is-spelt-6 c = search needs
+
+is-spelt-requires-6 : tie.Need-is-spelt-requires-6
+is-spelt-requires-6 c κs = search needs
+
 returns-6 : tie.Need-returns-6
 unfolding commandOf bytes
-returns-6 c = rw (sym (c .before .before .before .before .before .before .before .before .before .before .before .before .before .is-spelt .ensures) ∙ c .before .before .before .before .before .before .before .before .before .before .before .before .if1 .left, sym (c .before .before .before .before .before .before .before .before .before .before .is-spelt2 .ensures) ∙ c .before .before .before .before .before .before .before .before .before .if2 .left, sym (c .before .before .before .before .before .before .before .is-spelt3 .ensures) ∙ c .before .before .before .before .before .before .if3 .left, sym (c .before .before .before .before .is-spelt4 .ensures) ∙ c .before .before .before .if4 .left, sym (c .before .is-spelt5 .ensures) ∙ c .if5 .left)
+returns-6 c = rw (sym (c .before .before .before .before .before .before .before .before .before .before .before .before .before .before .before .before .is-spelt .ensures) ∙ c .before .before .before .before .before .before .before .before .before .before .before .before .before .before .before .if1 .left, sym (c .before .before .before .before .before .before .before .before .before .before .before .before .before .is-spelt2 .ensures) ∙ c .before .before .before .before .before .before .before .before .before .before .before .before .if2 .left, sym (c .before .before .before .before .before .before .before .before .before .before .is-spelt3 .ensures) ∙ c .before .before .before .before .before .before .before .before .before .if3 .left, sym (c .before .before .before .before .before .before .before .is-spelt4 .ensures) ∙ c .before .before .before .before .before .before .if4 .left, sym (c .before .before .before .before .is-spelt5 .ensures) ∙ c .before .before .before .if5 .left, sym (c .before .is-spelt6 .ensures) ∙ c .if6 .taken)
+
+returns-7 : tie.Need-returns-7
+unfolding commandOf bytes
+returns-7 c = rw (sym (c .before .before .before .before .before .before .before .before .before .before .before .before .before .before .before .before .is-spelt .ensures) ∙ c .before .before .before .before .before .before .before .before .before .before .before .before .before .before .before .if1 .left, sym (c .before .before .before .before .before .before .before .before .before .before .before .before .before .is-spelt2 .ensures) ∙ c .before .before .before .before .before .before .before .before .before .before .before .before .if2 .left, sym (c .before .before .before .before .before .before .before .before .before .before .is-spelt3 .ensures) ∙ c .before .before .before .before .before .before .before .before .before .if3 .left, sym (c .before .before .before .before .before .before .before .is-spelt4 .ensures) ∙ c .before .before .before .before .before .before .if4 .left, sym (c .before .before .before .before .is-spelt5 .ensures) ∙ c .before .before .before .if5 .left, sym (c .before .is-spelt6 .ensures) ∙ c .if6 .left)
 
 pub command-of-spec : {M : Type 1} → statement M
-command-of-spec = tie.close (tie.spec slice-aggregate-is-spelt is-spelt-requires returns slice-aggregate-is-spelt-2 is-spelt-requires-2 returns-2 slice-aggregate-is-spelt-3 is-spelt-requires-3 returns-3 slice-aggregate-is-spelt-4 is-spelt-requires-4 returns-4 slice-aggregate-is-spelt-5 is-spelt-requires-5 returns-5 returns-6)
+command-of-spec = tie.close (tie.spec slice-aggregate-is-spelt is-spelt-requires returns slice-aggregate-is-spelt-2 is-spelt-requires-2 returns-2 slice-aggregate-is-spelt-3 is-spelt-requires-3 returns-3 slice-aggregate-is-spelt-4 is-spelt-requires-4 returns-4 slice-aggregate-is-spelt-5 is-spelt-requires-5 returns-5 slice-aggregate-is-spelt-6 is-spelt-requires-6 returns-6 returns-7)

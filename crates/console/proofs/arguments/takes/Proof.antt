@@ -28,6 +28,12 @@ exec-takes-requires c κs = search needs
 enum-told-6 : tie.Need-enum-told-6
 enum-told-6 c = search needs
 
+run-takes-requires-2 : tie.Need-run-takes-requires-2
+run-takes-requires-2 c κs = search needs
+
+enum-told-7 : tie.Need-enum-told-7
+enum-told-7 c = search needs
+
 returns : tie.Need-returns
 unfolding takesOf
 returns c = rw (c .enum-told .given .1)
@@ -50,7 +56,11 @@ returns-5 c = rw (c .before .enum-told5 .given .1) (c .exec-takes .ensures)
 
 returns-6 : tie.Need-returns-6
 unfolding takesOf
-returns-6 c = rw (c .enum-told6 .given .1)
+returns-6 c = rw (c .before .enum-told6 .given .1) (c .run-takes2 .ensures)
+
+returns-7 : tie.Need-returns-7
+unfolding takesOf
+returns-7 c = rw (c .enum-told7 .given .1)
 
 pub takes-spec : {M : Type 1} → statement M
-takes-spec = tie.close (tie.spec enum-told enum-told-2 enum-told-3 run-takes-requires enum-told-4 enum-told-5 exec-takes-requires enum-told-6 returns returns-2 returns-3 returns-4 returns-5 returns-6)
+takes-spec = tie.close (tie.spec enum-told enum-told-2 enum-told-3 run-takes-requires enum-told-4 enum-told-5 exec-takes-requires enum-told-6 run-takes-requires-2 enum-told-7 returns returns-2 returns-3 returns-4 returns-5 returns-6 returns-7)

@@ -55,22 +55,4 @@ returns-3 : tie.Need-returns-3
 returns-3 c = search needs
 
 pub built-spec : {M : Type 1} → statement M
-built-spec =
-    tie.close
-    (tie.spec
-    at-most-requires
-    given-for-requires
-    slice-aggregate-write-file
-    write-file-requires
-    returns
-    slice-aggregate-line
-    line-requires
-    slice-aggregate-line-2
-    line-requires-2
-    given-for-requires-2
-    about-requires
-    slice-aggregate-tell
-    tell-requires
-    returns-2
-    unwritten-requires
-    returns-3)
+built-spec = tie.close (tie.spec at-most-requires given-for-requires slice-aggregate-write-file write-file-requires returns slice-aggregate-line line-requires slice-aggregate-line-2 line-requires-2 given-for-requires-2 about-requires slice-aggregate-tell tell-requires returns-2 unwritten-requires returns-3)

@@ -14,6 +14,9 @@ abbrev μ-loop : tie.MeasureT-loop
 say-requires : tie.Need-say-requires Inv-loop μ-loop
 say-requires c κs = search needs
 
+arrays-start-requires : tie.Need-arrays-start-requires Inv-loop μ-loop
+arrays-start-requires c κs = search needs
+
 loop-holds : tie.Need-loop-holds Inv-loop μ-loop
 loop-holds c = tt
 
@@ -48,6 +51,7 @@ arrays-line-spec =
     Inv-loop
     μ-loop
     say-requires
+    arrays-start-requires
     loop-holds
     memory-word-requires
     say-signed-requires

@@ -11,7 +11,7 @@ at-most-requires : tie.Need-at-most-requires
 at-most-requires c κs = search needs
 
 slice-aggregate-place-after : tie.Need-slice-aggregate-place-after
-slice-aggregate-place-after c = sym (length-take-le _ _ (c .before .at-most .ensures))
+slice-aggregate-place-after c = sym (length-take-le _ _ (omega (arith, c .before .at-most .ensures)))
 
 place-after-requires : tie.Need-place-after-requires
 place-after-requires c κs = simp length-take (omega (arith, c .before .before .if1 .taken, c .before .at-most .ensures))

@@ -1,9 +1,9 @@
--- `in_rooms` is safe: the block's size is within the block.
+-- `interpret` is safe: the block's size is within the block.
 use lib.Seq.{length-take-le}
 use mathlib.Core.Path.{sym}
 use native.Mathlib.Omega.{arith}
-use Rattle.doorlang.proofs.run.in_rooms.Statement.{statement}
-use Rattle.doorlang.proofs.run.in_rooms.Tie as tie
+use Rattle.doorlang.proofs.run.interpret.Statement.{statement}
+use Rattle.doorlang.proofs.run.interpret.Tie as tie
 use borrow.Author.Needs.{needs}
 
 block-size-requires : tie.Need-block-size-requires
@@ -27,8 +27,14 @@ same-length-3 c = search needs
 same-length-4 : tie.Need-same-length-4
 same-length-4 c = search needs
 
+same-length-5 : tie.Need-same-length-5
+same-length-5 c = search needs
+
+same-length-6 : tie.Need-same-length-6
+same-length-6 c = search needs
+
 returns : tie.Need-returns
 returns c = search needs
 
-pub in-rooms-spec : {M : Type 1} → statement M
-in-rooms-spec = tie.close (tie.spec block-size-requires slice-aggregate-interpret interpret-requires same-length same-length-2 same-length-3 same-length-4 returns)
+pub interpret-spec : {M : Type 1} → statement M
+interpret-spec = tie.close (tie.spec block-size-requires slice-aggregate-interpret interpret-requires same-length same-length-2 same-length-3 same-length-4 same-length-5 same-length-6 returns)
