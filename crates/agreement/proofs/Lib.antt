@@ -1,2 +1,4 @@
 pub mod Comparing
 pub mod Decides
+pub mod Growing
+pub mod Spent
