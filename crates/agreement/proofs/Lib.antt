@@ -1,2 +1,5 @@
 pub mod Comparing
 pub mod Decides
+pub mod Growing
+pub mod Spent
+pub mod Always
