@@ -76,13 +76,15 @@ module _ (costs : Costs) (p : Program) (image : List ℕ) where
     pub goes-on : (arrays : List ℕ) (fuel room : ℕ) → Input p arrays → source arrays fuel room .outcome ≡ stopped outOfFuel →
         (limit : ℕ) × (fuel ≤ costs .C * limit + costs .C0) × (limit ≤ costs .K * fuel + costs .K0) ×
         Alike Limit (source arrays fuel room) (machine arrays limit room)
-    -- A machine run that stops with exit or trap t: with some fuel the source finishes, or traps with t, with the same log and arrays.
+    -- A machine run that stops with exit or trap t: with some fuel, which the limit bounds, the source finishes, or traps with t, with the same log and
+    -- arrays.
     pub ends-back : (arrays : List ℕ) (limit room : ℕ) → Input p arrays → (stop : Status) →
         (stop ≡ Exit) ⊎ ((t : ℕ) × (stop ≡ Trap t)) → machine arrays limit room .machine .status ≡ stop →
-        (fuel : ℕ) × (stopFor (source arrays fuel room .outcome) ≡ some stop) × Alike stop (source arrays fuel room) (machine arrays limit room)
+        (fuel : ℕ) × (fuel ≤ costs .C * limit + costs .C0) × (stopFor (source arrays fuel room .outcome) ≡ some stop) ×
+        Alike stop (source arrays fuel room) (machine arrays limit room)
     -- No limit gives a fault.
     pub never-faults : (arrays : List ℕ) (limit room : ℕ) → Input p arrays → (n : ℕ) → machine arrays limit room .machine .status ≡ Fault n → ⊥
-    -- The logs agree forever: each one's log at any moment is the beginning of the other's at some moment.
+    -- The logs agree forever: each one's log at any moment is the beginning of the other's at some moment, which that moment bounds.
     pub same-forever : (arrays : List ℕ) (room : ℕ) → Input p arrays →
-        ((fuel : ℕ) → (limit : ℕ) × Begins (source arrays fuel room .world .log) (machine arrays limit room .machine .log)) ×
-        ((limit : ℕ) → (fuel : ℕ) × Begins (machine arrays limit room .machine .log) (source arrays fuel room .world .log))
+        ((fuel : ℕ) → (limit : ℕ) × (limit ≤ costs .K * fuel + costs .K0) × Begins (source arrays fuel room .world .log) (machine arrays limit room .machine .log)) ×
+        ((limit : ℕ) → (fuel : ℕ) × (fuel ≤ costs .C * limit + costs .C0) × Begins (machine arrays limit room .machine .log) (source arrays fuel room .world .log))

@@ -14,7 +14,8 @@ use Rattle.codegen.specs.Places.{Place, constant, local, temporary, abov
 use Rattle.codegen.specs.Operators.{stub, trapping}
 use Rattle.codegen.specs.Owed.{nothing, most-elements}
 use Rattle.codegen.proofs.Placement.{At}
-use Rattle.codegen.proofs.Logic.{K, C, Arrays, Setting, spent, Post, Sound}
+use Rattle.codegen.specs.Costs.{K, C}
+use Rattle.codegen.proofs.Logic.{Arrays, Setting, spent, Post, Sound}
 use Rattle.codegen.proofs.Frame.{Framed, Same, valueAt, There, Stable, value-same}
 
 -- The code of a program: where each function begins, and the traps.

@@ -21,7 +21,8 @@ use Rattle.codegen.specs.Places.{Place, constant, local, temporary, inRe
 use Rattle.codegen.specs.Expressions.{passes, saves, loads, registersOf, returning, entering, calling}
 use Rattle.codegen.specs.Owed.{nothing, most-parameters}
 use Rattle.codegen.proofs.Placement.{At, at-split}
-use Rattle.codegen.proofs.Logic.{K, C, Arrays, Setting, Post, Sound, sound-rates, sound-then, sound-step, sound-end, sound-ran, Ran, ran-none, ran-step, ran-trans, ran-most}
+use Rattle.codegen.specs.Costs.{K, C}
+use Rattle.codegen.proofs.Logic.{Arrays, Setting, Post, Sound, sound-rates, sound-then, sound-step, sound-end, sound-ran, Ran, ran-none, ran-step, ran-trans, ran-most}
 use Rattle.codegen.proofs.Numbers.{add-is, down}
 use Rattle.codegen.proofs.Frame.{updated-same, updated-other, Framed, Only, only-puts, put-same, apart, valueBy, valueAt, There, lw-step, sw-step}
 use Rattle.codegen.proofs.Macros.{fetch-ok}

@@ -22,7 +22,8 @@ use Rattle.codegen.specs.Operators.{stub}
 use Rattle.codegen.specs.Statements.{limit, leaving, block, clears, functionBy, nearIn, function}
 use Rattle.codegen.specs.Owed.{nothing, sizeOf, RunsAll, Proper}
 use Rattle.codegen.proofs.Placement.{At, at-split}
-use Rattle.codegen.proofs.Logic.{K, C, Arrays, Setting, Post, Sound, sound-bind, sound-end, sound-ran, Ran, ran-none, ran-step, ran-trans, ran-most}
+use Rattle.codegen.specs.Costs.{K, C}
+use Rattle.codegen.proofs.Logic.{Arrays, Setting, Post, Sound, sound-bind, sound-end, sound-ran, Ran, ran-none, ran-step, ran-trans, ran-most}
 use Rattle.codegen.proofs.Frame.{updated-same, updated-other, Framed, Only, only-puts, sw-step}
 use Rattle.codegen.proofs.Macros.{trap-ok}
 use Rattle.codegen.proofs.Activation.{Linked, Activation, Core, Back, Entered, CallIn, framed, high, Cor, arrays-same}

@@ -12,14 +12,8 @@ use Rattle.processor.specs.declared.Status.the-variants.{Going, Exit, Trap, Fau
 use Rattle.processor.specs.Machine.{data-start}
 use Rattle.language.specs.Meaning.{World, Stop, trapped, outOfFuel, Result, goes, stops, Act, bind, begin, begin-on}
 use Rattle.symbolic.specs.Symbolic.{Instruction, bad, State, exec1, run}
+use Rattle.codegen.specs.Costs.{K, C}
 use Rattle.symbolic.proofs.Runs.{run-add, step-at}
-
--- The steps that one unit of fuel pays for at most, and the fuel that one step pays for at most.
-abbrev pub K : ℕ
-K = 256
-
-abbrev pub C : ℕ
-C = 65536
 
 -- the elements of the arrays are in memory
 pub record Arrays (elements : ℕ) (arrays : List ℕ) (memory : ℕ → ℕ) : Type 0 where

@@ -25,7 +25,8 @@ use Rattle.symbolic.specs.Symbolic.{Bank, Fixed, Scratch, Argument, Temporary, 
 use Rattle.codegen.specs.Places.{Place, constant, local, temporary, inRegister, localWord, temporaryWord, short, upperOf, lowerOf, constantBy, constantTo, source, fetch, target, keep, bring, most-temporaries}
 use Rattle.codegen.specs.Operators.{stub, trapping, opposite, skip, address, inside, index, locateBy, locate, offset}
 use Rattle.codegen.proofs.Placement.{At, at-split, at-len}
-use Rattle.codegen.proofs.Logic.{K, C, Arrays, Setting, Post, Sound, Halt, sound-stop, sound-ran, Ran, ran-none, ran-step, ran-trans, ran-most}
+use Rattle.codegen.specs.Costs.{K, C}
+use Rattle.codegen.proofs.Logic.{Arrays, Setting, Post, Sound, Halt, sound-stop, sound-ran, Ran, ran-none, ran-step, ran-trans, ran-most}
 use Rattle.codegen.proofs.Numbers.{add-none, add-is, parts, shift-is, element-at, in-data, opposite-is}
 use Rattle.codegen.proofs.Frame.{updated-same, updated-other, Framed, Apart, Only, only-puts, only-none, only-trans, put-same, apart, Same, only-same, same-trans, valueBy, valueAt, There, Stable, value-same, lw-step, sw-step}
 

@@ -27,7 +27,8 @@ use Rattle.symbolic.specs.Symbolic.{Fixed, Scratch, Argument, Temporary, Reg, x
 use Rattle.codegen.specs.Places.{Place, constant, local, temporary, above, inRegister, short, source, fetch, target, keep, most-temporaries}
 use Rattle.codegen.specs.Operators.{stub, opposite, skip, Work, plain, divided, tested, work, left, right, working, withConstant, immediate, operatingBy, operating, result, alone, applying, relation, sense, comparing, testing, always, address, locate, offset, reading}
 use Rattle.codegen.proofs.Placement.{At, at-split, at-len}
-use Rattle.codegen.proofs.Logic.{K, C, Arrays, Setting, spent, Post, Sound, sound-rates, sound-then, sound-then′, sound-end, sound-ran, Ran, ran-none, ran-step, ran-trans, ran-most}
+use Rattle.codegen.specs.Costs.{K, C}
+use Rattle.codegen.proofs.Logic.{Arrays, Setting, spent, Post, Sound, sound-rates, sound-then, sound-then′, sound-end, sound-ran, Ran, ran-none, ran-step, ran-trans, ran-most}
 use Rattle.codegen.proofs.Numbers.{add-none, add-is, in-data, opposite-is}
 use Rattle.codegen.proofs.Frame.{Framed, Only, Same, only-same, same-trans, same-join, same-less, valueAt, There, Stable, value-same}
 use Rattle.codegen.proofs.Macros.{fetch-ok, source-only, same-target, value-target, keep-ok, put-ok, skip-ok, trap-ok}

@@ -20,18 +20,12 @@ use Rattle.codegen.specs.Places.{stack-start, stack-end}
 use Rattle.codegen.specs.Statements.{limit}
 use Rattle.codegen.specs.Image.{entryOf, instructionsOf}
 use Rattle.codegen.specs.Owed.{nothing, Owed}
-use Rattle.codegen.proofs.Logic.{K, C, Arrays, Setting, Halt, Sound, sound-then, sound-step, sound-end, sound-ran, ran-none, ran-step}
+use Rattle.codegen.specs.Costs.{K, K0, C, C0}
+use Rattle.codegen.proofs.Logic.{Arrays, Setting, Halt, Sound, sound-then, sound-step, sound-end, sound-ran, ran-none, ran-step}
 use Rattle.codegen.proofs.Activation.{Linked, Back, CallIn}
 use Rattle.codegen.proofs.Operators.{one-is, zero-is}
 use Rattle.codegen.proofs.Functions.{called}
 use Rattle.codegen.proofs.Link.{linked, begun, placed}
-
--- steps for the beginning and the end; fuel that may be owed when the run stops
-abbrev pub K0 : ℕ
-K0 = 96
-
-abbrev pub C0 : ℕ
-C0 = 65536
 
 -- how the symbolic processor shows an outcome: a source that is out of fuel is one that goes on
 abbrev pub seen : Outcome → Status

@@ -26,7 +26,8 @@ use Rattle.codegen.specs.Expressions.{placeOf, placesOf, calling, code, 
 use Rattle.codegen.specs.Statements.{leaving, over, otherwise, brought, answering, statement, block}
 use Rattle.codegen.specs.Owed.{nodes, nodesOf, size, sizeOf, count, nothing, Callable, Fits, FitsAll, Tests, Runs, RunsAll, most-parameters}
 use Rattle.codegen.proofs.Placement.{At, at-split, at-len}
-use Rattle.codegen.proofs.Logic.{K, C, Arrays, Setting, spent, Post, Sound, Halt, sound-rates, sound-bind, sound-bind′, sound-then, sound-then′, sound-post, sound-begin, sound-step, sound-end, sound-stop, sound-pure, sound-ran, Ran, ran-none, ran-step, ran-trans, ran-most}
+use Rattle.codegen.specs.Costs.{K, C}
+use Rattle.codegen.proofs.Logic.{Arrays, Setting, spent, Post, Sound, Halt, sound-rates, sound-bind, sound-bind′, sound-then, sound-then′, sound-post, sound-begin, sound-step, sound-end, sound-stop, sound-pure, sound-ran, Ran, ran-none, ran-step, ran-trans, ran-most}
 use Rattle.codegen.proofs.Numbers.{in-data}
 use Rattle.codegen.proofs.Frame.{updated-same, updated-other, Framed, Only, only-puts, Same, only-same, same-join, valueAt, There, Stable, value-same, lw-step, sw-step}
 use Rattle.codegen.proofs.Macros.{fetch-ok, bring-ok, trap-ok}

@@ -12,7 +12,8 @@ use Rattle.symbolic.specs.Fine.{most-instructions}
 use Rattle.symbolic.proofs.Start.{image-length}
 use Rattle.codegen.specs.Image.{instructionsOf, image}
 use Rattle.codegen.specs.Owed.{Owed}
-use Rattle.codegen.proofs.Whole.{costs, keeps}
+use Rattle.codegen.specs.Costs.{costs}
+use Rattle.codegen.proofs.Whole.{keeps}
 
 image-is : (p : Program) → length (image p) ≡ 4 * length (instructionsOf p)
 unfolding image

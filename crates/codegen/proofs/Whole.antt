@@ -14,7 +14,7 @@ use Rattle.processor.specs.Run as M
 use Rattle.processor.specs.Image.{runImage, arraysOf}
 use Rattle.language.specs.Core.{Program}
 use Rattle.language.specs.Meaning.{World, Stop, trapped, outOfFuel, Outcome, finished, stopped, Run, runOf}
-use Rattle.claims.specs.Keeps.{Costs, stopFor, Begins, Below, Input, Alike, Keeps}
+use Rattle.claims.specs.Keeps.{stopFor, Begins, Below, Input, Alike, Keeps}
 use Rattle.symbolic.specs.Symbolic.{State, initial, count}
 use Rattle.symbolic.specs.Real.{wordsFrom, imageOf}
 use Rattle.symbolic.proofs.Runs.{Stopped, run-add, log-grows, later, count-most}
@@ -24,14 +24,11 @@ use Rattle.symbolic.proofs.Arrays.{Holds}
 use Rattle.symbolic.proofs.Follows.{Loads, Seen, runnable, follows, follows-stop, never-faults}
 use Rattle.codegen.specs.Image.{instructionsOf, image}
 use Rattle.codegen.specs.Owed.{Owed}
-use Rattle.codegen.proofs.Logic.{K, C, Arrays}
-use Rattle.codegen.proofs.Simulation.{K0, C0, seen, source, after, Agree, Forward, forward, Matched, matched, enough, at-least, same-then, no-fault}
+use Rattle.codegen.specs.Costs.{K, K0, C, C0, costs}
+use Rattle.codegen.proofs.Logic.{Arrays}
+use Rattle.codegen.proofs.Simulation.{seen, source, after, Agree, Forward, forward, Matched, matched, enough, at-least, same-then, no-fault}
 use Rattle.codegen.proofs.Encodes.{fine}
 use Rattle.symbolic.specs.Fine.{most-instructions}
-
--- K, K0, C and C0 of claim 3
-abbrev pub costs : Costs
-costs = record { K = K; K0 = K0; C = C; C0 = C0 }
 
 word-of : (ws : List ℕ) → Below (2 ^ 32) ws → (i : ℕ) → getD ws i 0 < 2 ^ 32
 word-of [] w i = omega arith
@@ -132,7 +129,8 @@ module _ (p : Program) (O : Owed p) (fits : length (instructionsOf p) ≤ most-i
 
     -- what the machine shows at a stop, the source shows with fuel enough
     back-at : (limit : ℕ) (stop : Status) → aft limit .status ≡ stop → Stopped stop → ((o : Outcome) → seen o ≡ stop → stopFor o ≡ some stop)
-        → (fuel : ℕ) × (stopFor (src fuel .outcome) ≡ some stop) × Alike costs p (imageOf (instructionsOf p)) stop (src fuel) (runImage (imageOf (instructionsOf p)) (bytesOfWords arrays) room limit)
+        → (fuel : ℕ) × (fuel ≤ C * limit + C0) × (stopFor (src fuel .outcome) ≡ some stop)
+        × Alike costs p (imageOf (instructionsOf p)) stop (src fuel) (runImage (imageOf (instructionsOf p)) (bytesOfWords arrays) room limit)
     back-at limit stop e hs hb =
         let n = enough p O arrays room (I .one-each) limit in
         let g = matched p O arrays room (I .one-each) n in
@@ -140,11 +138,12 @@ module _ (p : Program) (O : Owed p) (fits : length (instructionsOf p) ≤ most-i
         let o = hb (src n .outcome) (sym (g .agree .same) ∙ ap (λ (σ : State). σ .status) t ∙ e) in
         let s = follows-stop room (instructionsOf p) arrays loads limit limit (omega arith) (no-fault p O arrays room (I .one-each) limit) (subst Stopped (sym e) hs) in
         let a : Agrees (src n) (aft limit) = subst (λ (σ : State). Agrees (src n) σ) t (g .agree) in
-        (n, o, record { stops = s .stops ∙ e; log = s .log ∙ a .log; arrays = block-is (src n) (aft limit) s a })
+        (n, omega arith, o, record { stops = s .stops ∙ e; log = s .log ∙ a .log; arrays = block-is (src n) (aft limit) s a })
 
     ends-back-at : (limit : ℕ) (stop : Status) → (stop ≡ Exit) ⊎ ((t : ℕ) × (stop ≡ Trap t))
         → runImage (imageOf (instructionsOf p)) (bytesOfWords arrays) room limit .machine .status ≡ stop
-        → (fuel : ℕ) × (stopFor (src fuel .outcome) ≡ some stop) × Alike costs p (imageOf (instructionsOf p)) stop (src fuel) (runImage (imageOf (instructionsOf p)) (bytesOfWords arrays) room limit)
+        → (fuel : ℕ) × (fuel ≤ C * limit + C0) × (stopFor (src fuel .outcome) ≡ some stop)
+        × Alike costs p (imageOf (instructionsOf p)) stop (src fuel) (runImage (imageOf (instructionsOf p)) (bytesOfWords arrays) room limit)
     ends-back-at limit stop k e =
         let s = follows room (instructionsOf p) arrays loads limit (no-fault p O arrays room (I .one-each) limit) in
         ⊎-elim (λ (x : stop ≡ Exit).
@@ -154,19 +153,19 @@ module _ (p : Program) (O : Owed p) (fits : length (instructionsOf p) ≤ most-i
         back-at limit stop (shown-trap (aft limit .status) (x .0) (sym (s .stops) ∙ e ∙ x .1) ∙ sym (x .1)) (subst Stopped (sym (x .1)) tt)
         (λ o y. seen-trap o (x .0) (y ∙ x .1) ∙ ap (λ (z : Status). some z) (sym (x .1)))) k
 
-    forever-there : (fuel : ℕ) → (limit : ℕ) × Begins (src fuel .world .log) (runImage (imageOf (instructionsOf p)) (bytesOfWords arrays) room limit .machine .log)
+    forever-there : (fuel : ℕ) → (limit : ℕ) × (limit ≤ K * fuel + K0) × Begins (src fuel .world .log) (runImage (imageOf (instructionsOf p)) (bytesOfWords arrays) room limit .machine .log)
     forever-there fuel =
         let g = forward p O arrays room (I .one-each) fuel in
         let s = follows room (instructionsOf p) arrays loads (g .m) (no-fault p O arrays room (I .one-each) (g .m)) in
-        (g .m, ([], append-nil _ ∙ sym (s .log ∙ g .agree .log)))
+        (g .m, (let f = g .fast in omega (arith, f)), ([], append-nil _ ∙ sym (s .log ∙ g .agree .log)))
 
-    forever-back : (limit : ℕ) → (fuel : ℕ) × Begins (runImage (imageOf (instructionsOf p)) (bytesOfWords arrays) room limit .machine .log) (src fuel .world .log)
+    forever-back : (limit : ℕ) → (fuel : ℕ) × (fuel ≤ C * limit + C0) × Begins (runImage (imageOf (instructionsOf p)) (bytesOfWords arrays) room limit .machine .log) (src fuel .world .log)
     forever-back limit =
         let n = enough p O arrays room (I .one-each) limit in
         let g = matched p O arrays room (I .one-each) n in
         let s = follows room (instructionsOf p) arrays loads limit (no-fault p O arrays room (I .one-each) limit) in
         let k = grows limit (g .m) (at-least p O arrays room (I .one-each) limit) in
-        (n, (k .0, ap (λ (l : List ℕ). l ++ k .0) (s .log) ∙ k .1 ∙ g .agree .log))
+        (n, omega arith, (k .0, ap (λ (l : List ℕ). l ++ k .0) (s .log) ∙ k .1 ∙ g .agree .log))
       where
         grows : (m n : ℕ) → m ≤ n → Begins (aft m .log) (aft n .log)
         grows m n h =

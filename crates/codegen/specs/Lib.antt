@@ -5,3 +5,4 @@ pub mod Statements
 pub mod Image
 pub mod Owed
 pub mod Vectors
+pub mod Costs

@@ -161,7 +161,7 @@ ends p ws = counts (instructionsOf p) 2000 0 (starts (holding ws))
 abbrev gives : Status → List ℕ → ℕ → Ran
 gives s l n = record { status = s; log = l; steps = n }
 
--- Steps and words. A plain stack machine takes 305 steps for G, 370 to 400 for Z, 3,160 for f(62); C without optimisation takes 202 and 338 to 381.
+-- Steps and words. The plain stack machine of document 03 §5 takes 305 steps for G, 370 to 400 for Z, 3,160 for f(62).
 pub record Vectors : Type 0 where
   pub G-runs : ends G [] ≡ gives Exit (6 ∷ 6 ∷ 5 ∷ []) 130
   pub G-words : length (instructionsOf G) ≡ 67

@@ -38,8 +38,8 @@ must-end result h e = record { by = λ b more q c. rw (ne-eqb result 0 h) (e .by
 
 -- The body
 
-module _ (text tree : List ℕ) (gs : List Global) (locals : List ℕ) (p q e n : ℕ) {first at result statements : ℕ} (core : List ℕ) {c : Counted} {locals₁ core₁ : List ℕ}
-    (ef : first ≡ p + 8 + 3 * n) (ea : at ≡ word tree (p + 1)) (er : result ≡ word tree (p + 4)) (es : statements ≡ word tree (p + 5))
+module _ (text tree : List ℕ) (gs : List Global) (locals : List ℕ) (p q e n : ℕ) {first result statements : ℕ} (core : List ℕ) {c : Counted} {locals₁ core₁ : List ℕ}
+    (ef : first ≡ p + 8 + 3 * n) (er : result ≡ word tree (p + 4)) (es : statements ≡ word tree (p + 5))
     (bs : Blocks text gs locals n n (resultOf result) statements (drop first tree) q core c locals₁ core₁) where
   module _ (words : ℕ) (x : Name) (ps : List Param) (t : Option Ty) (b : T.Block) (is : List Item) {place : Place} (f : S.Function text tree words p place x ps t b is) (en : n ≡ length ps) where
     abbrev ruled : Ruled (C.Block × ℕ)
@@ -65,9 +65,9 @@ module _ (text tree : List ℕ) (gs : List Global) (locals : List ℕ) (p q e n 
       ends-is : r ≡ mustEnd t b
       ends-is = m .by b _ body-words (es ∙ f .count) ∙ ap (λ (u : Option Ty). mustEnd u b) result-is
 
-      body-open : r ≡ false → finished gs place n t b (scopeOf gs text locals n n) ≡ breaks at
+      body-open : {at : Place} → at ≡ word tree (p + 1) → r ≡ false → finished gs place n t b (scopeOf gs text locals n n) ≡ breaks at
       unfolding finished need
-      body-open g = went _ (blocked .is) (stopped _ (ap (λ (u : Bool). need u place) (sym ends-is ∙ g) ∙ ap breaks (sym (ea ∙ f .place))))
+      body-open ea g = went _ (blocked .is) (stopped _ (ap (λ (u : Bool). need u place) (sym ends-is ∙ g) ∙ ap breaks (sym (ea ∙ f .place))))
 
       body-made : {core₂ : List ℕ} → r ≡ true → core₂ ≡ sets core₁ e (q ∷ statements ∷ n ∷ (d - n) ∷ []) → Made b (finished gs place n t b (scopeOf gs text locals n n)) q e core core₂
       unfolding finished need
@@ -81,8 +81,8 @@ module _ (text tree : List ℕ) (gs : List Global) (locals : List ℕ) (p q e n 
   pub finish-fault : {d : Place} {core₂ : List ℕ} → c ≡ After.Broken d → Finishes text tree gs locals p q e n core (Is.Broken d) core₂
   finish-fault k = record { by = λ words place x ps t b is s en. body-fault words x ps t b is (S.function-at s) en k }
 
-  pub finish-open : {d : ℕ} {r : Bool} {core₂ : List ℕ} → c ≡ After.Count d → MustEnd statements (drop first tree) result r → r ≡ false → Finishes text tree gs locals p q e n core (Is.Broken at) core₂
-  finish-open k m g = record { by = λ words place x ps t b is s en. body-open words x ps t b is (S.function-at s) en k m g }
+  pub finish-open : {d at : ℕ} {r : Bool} {core₂ : List ℕ} → c ≡ After.Count d → MustEnd statements (drop first tree) result r → at ≡ word tree (p + 1) → r ≡ false → Finishes text tree gs locals p q e n core (Is.Broken at) core₂
+  finish-open k m ea g = record { by = λ words place x ps t b is s en. body-open words x ps t b is (S.function-at s) en k m ea g }
 
   pub finish-made : {d : ℕ} {r : Bool} {core₂ : List ℕ} → c ≡ After.Count d → MustEnd statements (drop first tree) result r → r ≡ true → core₂ ≡ sets core₁ e (q ∷ statements ∷ n ∷ (d - n) ∷ []) → Finishes text tree gs locals p q e n core Is.Kept core₂
   finish-made k m g w = record { by = λ words place x ps t b is s en. body-made words x ps t b is (S.function-at s) en k m g w }

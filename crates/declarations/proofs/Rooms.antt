@@ -10,7 +10,7 @@ use Rattle.flat.specs.Words.{entry}
 use Rattle.rules.specs.Statements.{BlockRoom, CountCase}
 use Rattle.rules.specs.declared.Counted.{Counted}
 use Rattle.rules.specs.declared.Counted.the-variants as After
-use Rattle.declarations.specs.Post.{Rooms, Spot, Lent, Few, FewIn}
+use Rattle.declarations.specs.Post.{Rooms, Placed, Lent, Few, FewIn}
 use Rattle.declarations.specs.declared.Tally.{Tally}
 use Rattle.declarations.specs.declared.Tally.the-variants as In
 
@@ -25,7 +25,7 @@ rooms-on r a b c d = record {
   for-core = omega (arith, r .for-core, d);
 }
 
-pub block-room : {tree : List ℕ} {g n p q e : ℕ} {locals types starts core : List ℕ} → Rooms tree g locals types starts core → Spot p q e → n ≤ most-parameters → BlockRoom tree g locals n n types starts core (p + 8 + 3 * n) q
+pub block-room : {tree : List ℕ} {g n p q e : ℕ} {locals types starts core : List ℕ} → Rooms tree g locals types starts core → Placed p q e → n ≤ most-parameters → BlockRoom tree g locals n n types starts core (p + 8 + 3 * n) q
 block-room r s l = record {
   room = record {
     globals = omega (arith, r .globals);
@@ -46,8 +46,8 @@ block-room r s l = record {
 pub counted-more : {count c : ℕ} {r : Counted} → CountCase count r → r ≡ After.Count c → count ≤ c
 counted-more {count} h e = subst (CountCase count) e h .0
 
-pub spot-at : {words p q : ℕ} (total f : ℕ) → p < words → words ≤ tree-room → total ≤ most-functions → q ≤ p + entry total → 8 * f ≤ p → Spot p q (entry f)
-spot-at total f l u v w x = record { item = omega (arith, l, u); body = omega (arith, v, w); entry = omega (arith, x) }
+pub placed-at : {words p q : ℕ} (total f : ℕ) → p < words → words ≤ tree-room → total ≤ most-functions → q ≤ p + entry total → 8 * f ≤ p → Placed p q (entry f)
+placed-at total f l u v w x = record { item = omega (arith, l, u); body = omega (arith, v, w); entry = omega (arith, x) }
 
 pub rooms-from : {tree : List ℕ} {words a e f : ℕ} {globals locals types starts core : List ℕ} → Lent tree words globals locals types starts core → Few a e f → Rooms tree (a + f) locals types starts core
 rooms-from l w = record {

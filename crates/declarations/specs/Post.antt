@@ -146,7 +146,7 @@ pub record Rooms (tree : List ℕ) (g : ℕ) (locals types starts core : List �
   pub for-core : core-room ≤ length core
 
 -- an item at p, its body from q on, and its entry at e
-pub record Spot (p q e : ℕ) : Type 0 where
+pub record Placed (p q e : ℕ) : Type 0 where
   pub item : p < tree-room
   pub body : q ≤ p + head-words
   pub entry : e ≤ p + 3

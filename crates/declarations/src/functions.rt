@@ -8,7 +8,7 @@ ghost use Rattle.language.specs.Rules.{most-functions, most-parameters};
 ghost use Rattle.grammar.specs.Flat.{tree-room};
 ghost use Rattle.rules.specs.Tables.{globalsIn};
 ghost use Rattle.rules.specs.Post.{most-places, most-words};
-ghost use Rattle.declarations.specs.Post.{MustEnd, Rooms, Spot, Finishes, Makes, Passes, Fills};
+ghost use Rattle.declarations.specs.Post.{MustEnd, Rooms, Placed, Finishes, Makes, Passes, Fills};
 use crate::Reached;
 use crate::Rule;
 use crate::globals::BODY_WORDS;
@@ -19,6 +19,7 @@ use crate::globals::next;
 use crate::parameters::parameters;
 use flat::program;
 use rules::Counted;
+use rules::Spot;
 use rules::blocks::block;
 use rules::calls::PARAMETERS;
 use rules::calls::RESULT;
@@ -74,35 +75,27 @@ pub fn finish(
     e: usize,
     n: u32,
 ) -> Rule
-    requires { ⌜ Rooms (now tree) g (now locals) (now types) (now starts) (now core) × Spot p q e × (n ≤ most-parameters) ⌝ }
+    requires { ⌜ Rooms (now tree) g (now locals) (now types) (now starts) (now core) × Placed p q e × (n ≤ most-parameters) ⌝ }
     ensures { λ r. ⌜ Finishes (now (text .entry)) (now (tree .entry)) (globalsIn (now (text .entry)) (now (tree .entry)) (now (globals .entry)) g) (now (locals .entry)) p q e n (now (core .entry)) r (now (core .exit)) ⌝ }
 {
-    let first = p + HEADER_WORDS + PARAMETER_WORDS * n as usize;
-    let at = word(tree, p + NAME_PLACE);
     let result = word(tree, p + RESULT);
-    let statements = word(tree, p + STATEMENTS);
-    let c = block(
-        text,
-        tree,
-        globals,
-        g,
-        locals,
-        n as usize,
-        types,
-        starts,
-        core,
-        first,
-        q,
-        statements,
-        n,
+    let many = word(tree, p + STATEMENTS);
+    let first = p + HEADER_WORDS + PARAMETER_WORDS * n as usize;
+    let body = Spot {
+        tree: first,
+        core: q,
+        globals: g,
+        visible: n as usize,
+        count: n,
         result,
-    );
+    };
+    let c = block(text, tree, globals, locals, types, starts, core, body, many);
     match c {
         Counted::Count(count) => {
-            if !must_end(tree, first, statements, result) {
-                return Rule::Broken(at);
+            if !must_end(tree, first, many, result) {
+                return Rule::Broken(word(tree, p + NAME_PLACE));
             }
-            put_entry(core, e, q as u32, statements, n, count - n);
+            put_entry(core, e, q as u32, many, n, count - n);
             Rule::Kept
         }
         Counted::Broken(b) => Rule::Broken(b),
@@ -123,7 +116,7 @@ pub fn function(
     q: usize,
     e: usize,
 ) -> Rule
-    requires { ⌜ Rooms (now tree) g (now locals) (now types) (now starts) (now core) × Spot p q e ⌝ }
+    requires { ⌜ Rooms (now tree) g (now locals) (now types) (now starts) (now core) × Placed p q e ⌝ }
     ensures { λ r. ⌜ Makes (now (text .entry)) (now (tree .entry)) (globalsIn (now (text .entry)) (now (tree .entry)) (now (globals .entry)) g) p q e (now (core .entry)) r (now (core .exit)) ⌝ }
 {
     let n = word(tree, p + PARAMETERS);
@@ -165,7 +158,7 @@ pub fn item(
     q: usize,
     f: usize,
 ) -> Reached
-    requires { ⌜ Rooms (now tree) g (now locals) (now types) (now starts) (now core) × Spot p q (3 + 4 * f) ⌝ }
+    requires { ⌜ Rooms (now tree) g (now locals) (now types) (now starts) (now core) × Placed p q (3 + 4 * f) ⌝ }
     ensures { λ r. ⌜ Passes (now (text .entry)) (now (tree .entry)) (globalsIn (now (text .entry)) (now (tree .entry)) (now (globals .entry)) g) p q f (now (core .entry)) r (now (core .exit)) ⌝ }
 {
     let kind = word(tree, p);

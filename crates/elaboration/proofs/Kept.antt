@@ -9,7 +9,7 @@ use Rattle.language.specs.Text.{Accepted}
 use Rattle.processor.specs.Image.{longest-code}
 use Rattle.claims.specs.Keeps.{Keeps}
 use Rattle.codegen.specs.Image.{image}
-use Rattle.codegen.proofs.Whole.{costs}
+use Rattle.codegen.specs.Costs.{costs}
 use Rattle.codegen.proofs.Bounds.{image-short}
 use Rattle.codegen.proofs.Theorem.{theorem}
 use Rattle.elaboration.proofs.Accepted.{accepted, accepted-light}

@@ -11,11 +11,11 @@ use Rattle.language.specs.Tree.{Place, Ty, int, bool}
 use Rattle.language.specs.Tree as T
 use Rattle.language.specs.Rules.{Global, stmt}
 use Rattle.grammar.specs.Flat as G
-use Rattle.rules.specs.Tables.{word, part, typeOf}
+use Rattle.rules.specs.Tables.{word, part}
 use Rattle.rules.specs.Named.{Stands, NamedExpr, NamedStmt}
 use Rattle.rules.specs.declared.Step.{Step}
 use Rattle.rules.specs.Post.{scopeOf, StmtCase, States}
-use Rattle.rules.specs.Statements.{Heads, States-two, Runs, Statement, holdsBlocks}
+use Rattle.rules.specs.Statements.{Heads, declaredType, States-two, Runs, Statement, holdsBlocks}
 use Rattle.rules.proofs.Heading.{further}
 
 pub holds-first : (k : ℕ) → k ≡ 2 → true ≡ holdsBlocks k
@@ -44,6 +44,9 @@ module _ (text : List ℕ) (gs : List Global) (locals : List ℕ) (l count : ℕ
   abbrev One : (T.Expr → T.Stmt) → Type 0
   One build = States text gs locals l count result build n rest (drop (p + 8) tree) q core r locals′ core′
 
+  abbrev Declares : ℕ → Type 0
+  Declares i = One (λ e. T.declare at (part text at size) (declaredType i) e)
+
   -- what is promised of each kind with no block
   abbrev Arm : ℕ → Type 0
   Arm zero = One (λ e. T.assign at (part text at size) e)
@@ -55,8 +58,8 @@ module _ (text : List ℕ) (gs : List Global) (locals : List ℕ) (l count : ℕ
   Arm (suc (suc (suc (suc (suc (suc zero)))))) = One (λ e. T.emit at e)
   Arm (suc (suc (suc (suc (suc (suc (suc zero))))))) = Runs text gs locals l count result at (part text at size) n rest (drop (p + 8) tree) q core r locals′ core′
   Arm (suc (suc (suc (suc (suc (suc (suc (suc zero)))))))) = Unit {0}
-  Arm (suc (suc (suc (suc (suc (suc (suc (suc (suc zero))))))))) = One (λ e. T.declare at (part text at size) (typeOf 1) e)
-  Arm (suc (suc (suc (suc (suc (suc (suc (suc (suc (suc zero)))))))))) = One (λ e. T.declare at (part text at size) (typeOf 2) e)
+  Arm (suc (suc (suc (suc (suc (suc (suc (suc (suc zero))))))))) = Declares k
+  Arm (suc (suc (suc (suc (suc (suc (suc (suc (suc (suc zero)))))))))) = Declares k
   Arm (suc (suc (suc (suc (suc (suc (suc (suc (suc (suc (suc i))))))))))) = Unit {0}
 
   -- the words that the header is
@@ -76,9 +79,9 @@ module _ (text : List ℕ) (gs : List Global) (locals : List ℕ) (l count : ℕ
   one build x e more k′ at′ sz ew ne = x .by e more (further tree p 8 ew refl) (hd .is-items ∙ ap (λ (w : List ℕ). word w 3) ew) (hd .is-rest ∙ ap (λ (w : List ℕ). word w 7) ew) ne
 
   arm : holdsBlocks k ≡ false → Arm k → (st : T.Stmt) (more : List ℕ) → drop p tree ≡ G.stmtWords st more → NamedStmt text st → Said st
-  unfolding G.stmtWords NamedStmt holdsBlocks G.declareKind typeOf
-  arm b x (T.declare at′ y Ty.int e) more ew nm = subst Said (named (λ u v. T.declare u v int e) (is-at ew) (is-size ew) (nm .0)) (one (λ e. T.declare at (part text at size) int e) (subst Arm (is-kind ew) x) e more 9 at′ (length y) ew (nm .1))
-  arm b x (T.declare at′ y Ty.bool e) more ew nm = subst Said (named (λ u v. T.declare u v bool e) (is-at ew) (is-size ew) (nm .0)) (one (λ e. T.declare at (part text at size) bool e) (subst Arm (is-kind ew) x) e more 10 at′ (length y) ew (nm .1))
+  unfolding G.stmtWords NamedStmt holdsBlocks G.declareKind declaredType
+  arm b x (T.declare at′ y Ty.int e) more ew nm = subst Said (named (λ u v. T.declare u v int e) (is-at ew) (is-size ew) (nm .0)) (one (λ e. T.declare at (part text at size) int e) (subst Declares (is-kind ew) (subst Arm (is-kind ew) x)) e more 9 at′ (length y) ew (nm .1))
+  arm b x (T.declare at′ y Ty.bool e) more ew nm = subst Said (named (λ u v. T.declare u v bool e) (is-at ew) (is-size ew) (nm .0)) (one (λ e. T.declare at (part text at size) bool e) (subst Declares (is-kind ew) (subst Arm (is-kind ew) x)) e more 10 at′ (length y) ew (nm .1))
   arm b x (T.assign at′ y e) more ew nm = subst Said (named (λ u v. T.assign u v e) (is-at ew) (is-size ew) (nm .0)) (one (λ e. T.assign at (part text at size) e) (subst Arm (is-kind ew) x) e more 0 at′ (length y) ew (nm .1))
   arm b x (T.store at′ y i e) more ew nm = subst Said (named (λ u v. T.store u v i e) (is-at ew) (is-size ew) (nm .0))
       (subst Arm (is-kind ew) x .by i e more (further tree p 8 ew refl) (hd .is-items ∙ ap (λ (w : List ℕ). word w 3) ew) (hd .is-more-items ∙ ap (λ (w : List ℕ). word w 4) ew) (hd .is-rest ∙ ap (λ (w : List ℕ). word w 7) ew) (nm .1) (nm .2))

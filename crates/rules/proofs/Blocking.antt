@@ -15,7 +15,7 @@ use Rattle.flat.specs.Statements.{flat, flats}
 use Rattle.flat.specs.Words as F
 use Rattle.flat.specs.Words.{restLength}
 use Rattle.flat.proofs.Writing.{stmt-then}
-use Rattle.rules.specs.Tables.{word}
+use Rattle.rules.specs.Tables.{word, resultOf, globalsIn}
 use Rattle.rules.specs.Named.{NamedStmt, NamedBlock}
 use Rattle.rules.specs.declared.Step.{Step}
 use Rattle.rules.specs.declared.Step.the-variants as To
@@ -79,6 +79,13 @@ block-starts text gs result tree g n p q locals l count types starts core h = re
 named-then : (text : List ℕ) (s : T.Stmt) (b : T.Block) → NamedBlock text (T.then s b) → NamedStmt text s × NamedBlock text b
 unfolding NamedStmt
 named-then text s b h = h
+
+-- each statement has the block's globals and result
+pub in-scope : {text : List ℕ} (tree ws : List ℕ) {locals : List ℕ} {g g′ l count result result′ : ℕ} {us : List ℕ} {q : ℕ} {core : List ℕ} {r : Step} {locals′ core′ : List ℕ} → g′ ≡ g → result′ ≡ result →
+    Statement text (globalsIn text tree ws g′) locals l count (resultOf result′) us q core r locals′ core′ → Statement text (globalsIn text tree ws g) locals l count (resultOf result) us q core r locals′ core′
+in-scope {text} tree ws {locals} {g} {g′} {l} {count} {result} {result′} {us} {q} {core} {r} {locals′} {core′} e f x =
+    subst (λ (i : ℕ). Statement text (globalsIn text tree ws i) locals l count (resultOf result) us q core r locals′ core′) e
+    (subst (λ (i : ℕ). Statement text (globalsIn text tree ws g′) locals l count (resultOf i) us q core r locals′ core′) f x)
 
 -- a statement, and then the rest
 module _ (text : List ℕ) (gs : List Global) (result : Option Ty) (s : T.Stmt) (b : T.Block) (σ : Scope gs) where
@@ -186,11 +193,11 @@ module _ {text : List ℕ} {gs : List Global} {result : Option Ty} {tree : List 
             for-core = ec ∙ c .for-core;
           }
 
-  pub stmt-room : (rest : ℕ) → BlockRoom tree g locals₀ l₀ count₀ types₀ starts₀ core₀ p q → at + (8 + rest) ≤ length tree → StmtRoom tree g locals l count types starts core at to rest
-  stmt-room rest h e = record {
+  pub stmt-room : {g′ : ℕ} (rest : ℕ) → g′ ≡ g → BlockRoom tree g locals₀ l₀ count₀ types₀ starts₀ core₀ p q → at + (8 + rest) ≤ length tree → StmtRoom tree g′ locals l count types starts core at to rest
+  stmt-room rest eg h e = record {
     all = record {
       room = record {
-        globals = h .room .globals;
+        globals = omega (arith, h .room .globals, eg);
         locals = omega (arith, c .visible, c .few);
         words = h .room .words;
         place = c .near;

@@ -62,3 +62,7 @@ module _ {tree : List ℕ} {g : ℕ} {locals : List ℕ} {l count : ℕ} {types 
     few = b;
     core-far = omega (arith, s .all .core-far, ej, ei);
   }
+
+  -- the same statement, in rooms that are as long
+  pub stmt-on : {types′ starts′ core′ : List ℕ} → length types′ ≡ length types → length starts′ ≡ length starts → length core′ ≡ length core → StmtRoom tree g locals l count types′ starts′ core′ p q rest
+  stmt-on et es ec = record { all = block-room 0 p q (omega arith) (omega arith) (omega arith) (s .all .visible) (s .all .few) refl et es ec; whole = s .whole }

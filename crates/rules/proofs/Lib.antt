@@ -18,5 +18,6 @@ pub mod Arms
 pub mod Testing
 pub mod Nesting
 pub mod Walking
+pub mod Branching
 pub mod Blocking
 pub mod Ending

@@ -12,9 +12,9 @@ use borrow.Author.Tests.{eq-eqb, ne-eqb, lt-ltb, le-ltb, le-leb, lt-leb}
 use Rattle.word.specs.Choice.{pick, both}
 use Rattle.language.specs.Tree.{Name, Ty, int, bool}
 use Rattle.language.specs.Rules.{sameTy, Local, Global, Signature, localOf, globalOf, andThen, isArray, isFunction}
-use Rattle.rules.specs.Tables.{word, part, typeOf, resultOf, typesFrom, sameTypes, localAt, localsIn, globalAt, globalsIn, thingAt}
-use Rattle.rules.specs.Scan.{Operand, no-operand, Node, sole, leaf, nameNode, elementNode, unaryNode, strictNode, markNode, joinNode, uppermost, firstStart, callNode, calledNode, nodes, nodeOf}
-use Rattle.rules.specs.Post.{localEntry, FindsLocal, globalEntry, FindsGlobal, operandsIn, Tops}
+use Rattle.rules.specs.Tables.{word, part, typeOf, resultOf, typesFrom, sameTypes, localAt, localsIn, globalAt, globalsIn, signature, thingAt}
+use Rattle.rules.specs.Scan.{Operand, no-operand, Node, sole, leaf, nameNode, elementNode, unaryNode, strictNode, markNode, joinNode, uppermost, firstStart, functionNamed, callNode, calledNode, nodes, nodeOf}
+use Rattle.rules.specs.Post.{localEntry, FindsLocal, globalEntry, FindsGlobal, operandsIn, calleeOf, Tops}
 
 -- entry r, where there is one
 pub entry-local : (text ws : List ℕ) (r : ℕ) → (r ≡ 0 → ⊥) → localEntry text ws r ≡ some (localAt text ws (r - 1))
@@ -93,11 +93,11 @@ module _ (x y : Operand) {b : Bool} (t : b ≡ sameTy bool (x .type)) where
     unfolding joinNode sole
     join-fine f = rw (← t, ← u, f, g) refl
 
-pub by-equal : (a : ℕ) {A : Type 0} (x y : A) → a ≡ 0 → pick (eqb a 0) x y ≡ x
-by-equal a x y e = rw (eq-eqb a 0 e) refl
+pub by-equal : (a n : ℕ) {A : Type 0} (x y : A) → a ≡ n → pick (eqb a n) x y ≡ x
+by-equal a n x y e = rw (eq-eqb a n e) refl
 
-pub by-other : (a : ℕ) {A : Type 0} (x y : A) → (a ≡ 0 → ⊥) → pick (eqb a 0) x y ≡ y
-by-other a x y e = rw (ne-eqb a 0 e) refl
+pub by-other : (a n : ℕ) {A : Type 0} (x y : A) → (a ≡ n → ⊥) → pick (eqb a n) x y ≡ y
+by-other a n x y e = rw (ne-eqb a n e) refl
 
 pub by-less : (a n : ℕ) {A : Type 0} (x y : A) → a < n → pick (ltb a n) x y ≡ x
 by-less a n x y e = rw (lt-ltb a n e) refl
@@ -139,10 +139,6 @@ unfolding operandsIn
 count-operands ts ss zero = refl
 count-operands ts ss (suc h) = ap suc (count-operands ts ss h)
 
--- the signature that a header says
-abbrev pub signature : List ℕ → ℕ → ℕ → Signature
-signature tree h v = record { number = v; parameters = typesFrom tree 3 (h + 10) (word tree (h + 3)); result = resultOf (word tree (h + 4)) }
-
 module _ (ts ss tree : List ℕ) (h header v n here begins : ℕ) (t : Ty) where
   pub few-operands : h < n → none ≡ callNode (signature tree header v) n here begins t (operandsIn ts ss h)
   unfolding callNode sole
@@ -168,24 +164,56 @@ no-arguments os n here e = rw (eq-eqb n 0 e) refl
 pub first-argument : {ts ss : List ℕ} {h ty start : ℕ} (n here : ℕ) → (n ≡ 0 → ⊥) → Tops ts ss h (n - 1) ty start → start ≡ firstStart n here (operandsIn ts ss h)
 first-argument {ty = ty} n here e t = rw (ne-eqb n 0 e, t .is) refl
 
-module _ {text tree ws : List ℕ} {count r : ℕ} (p a n here : ℕ) (os : List Operand) (f : FindsGlobal text tree ws count (part text p a) r) where
-  pub no-callee : r ≡ 0 → none ≡ calledNode text (globalsIn text tree ws count) p a n here os
-  unfolding calledNode globalEntry
-  no-callee e = rw (f .is, e) refl
+-- The function that a name stands for
+
+module _ {text tree ws : List ℕ} {count r : ℕ} (p a : ℕ) (f : FindsGlobal text tree ws count (part text p a) r) where
+  pub no-thing-named : (u v : ℕ) → r ≡ 0 → functionNamed text (globalsIn text tree ws count) p a ≡ calleeOf tree false u v
+  unfolding functionNamed globalEntry calleeOf
+  no-thing-named u v e = rw (f .is, e) refl
 
   module _ {h k : ℕ} (z : r ≡ 0 → ⊥) (e : h ≡ word ws (2 * (r - 1))) (g : k ≡ word tree h) where
-    pub not-function : k ≡ 0 → none ≡ calledNode text (globalsIn text tree ws count) p a n here os
-    unfolding calledNode globalAt thingAt
-    not-function d = rw (f .is, entry-global text tree ws r z, ← e, ← g, eq-eqb k 0 d) refl
+    pub not-function : (u v : ℕ) → k ≡ 0 → functionNamed text (globalsIn text tree ws count) p a ≡ calleeOf tree false u v
+    unfolding functionNamed globalAt thingAt calleeOf
+    not-function u v d = rw (f .is, entry-global text tree ws r z, ← e, ← g, eq-eqb k 0 d) refl
 
-    module _ {t : ℕ} (d : k ≡ 0 → ⊥) (u : t ≡ word tree (h + 4)) where
-      pub no-result : t ≡ 0 → none ≡ calledNode text (globalsIn text tree ws count) p a n here os
-      unfolding calledNode globalAt thingAt resultOf
-      no-result y = rw (f .is, entry-global text tree ws r z, ← e, ← g, ne-eqb k 0 d, ← u, eq-eqb t 0 y) refl
+    pub a-function : {v : ℕ} → (k ≡ 0 → ⊥) → v ≡ word ws (2 * (r - 1) + 1) → functionNamed text (globalsIn text tree ws count) p a ≡ calleeOf tree true h v
+    unfolding functionNamed globalAt thingAt calleeOf
+    a-function d x = rw (f .is, entry-global text tree ws r z, ← e, ← g, ne-eqb k 0 d, x) refl
 
-      pub with-result : {v : ℕ} {o : Option Node} → (t ≡ 0 → ⊥) → v ≡ word ws (2 * (r - 1) + 1) → o ≡ callNode (signature tree h v) n here 1 (typeOf t) os → o ≡ calledNode text (globalsIn text tree ws count) p a n here os
-      unfolding calledNode globalAt thingAt resultOf
-      with-result y x q = q ∙ rw (f .is, entry-global text tree ws r z, ← e, ← g, ne-eqb k 0 d, ← u, ne-eqb t 0 y, x) refl
+-- what is made of the thing of a name is made of the function of that name
+pub of-function : (text : List ℕ) (gs : List Global) (p a : ℕ) (make : Signature → Option Node) → andThen (globalOf gs (part text p a)) (λ g. andThen (isFunction (g .thing)) make) ≡ andThen (functionNamed text gs p a) make
+unfolding functionNamed
+of-function text gs p a make = go (globalOf gs (part text p a))
+  where
+    go : (o : Option Global) → andThen o (λ g. andThen (isFunction (g .thing)) make) ≡ andThen (andThen o (λ g. isFunction (g .thing))) make
+    go none = refl
+    go (some g) = refl
+
+module _ (text tree : List ℕ) (gs : List Global) (p a : ℕ) (ok : Bool) (h v : ℕ) (f : functionNamed text gs p a ≡ calleeOf tree ok h v) where
+  pub named-none : (make : Signature → Option Node) → ok ≡ false → none ≡ andThen (globalOf gs (part text p a)) (λ g. andThen (isFunction (g .thing)) make)
+  unfolding calleeOf
+  named-none make e = sym (of-function text gs p a make ∙ rw (f, e) refl)
+
+  pub named-some : (make : Signature → Option Node) → ok ≡ true → make (signature tree h v) ≡ andThen (globalOf gs (part text p a)) (λ g. andThen (isFunction (g .thing)) make)
+  unfolding calleeOf
+  named-some make e = sym (of-function text gs p a make ∙ rw (f, e) refl)
+
+  module _ (n here : ℕ) (os : List Operand) where
+    pub no-callee : ok ≡ false → none ≡ calledNode text gs p a n here os
+    unfolding calledNode
+    no-callee e = named-none (λ s. andThen (s .result) (λ t. callNode s n here 1 t os)) e
+
+    module _ {t : ℕ} (e : ok ≡ true) (u : t ≡ word tree (h + 4)) where
+      pub no-result : t ≡ 0 → none ≡ calledNode text gs p a n here os
+      unfolding calledNode resultOf
+      no-result y = rw (← u, eq-eqb t 0 y) refl ∙ named-some (λ s. andThen (s .result) (λ t. callNode s n here 1 t os)) e
+
+      pub with-result : {o : Option Node} → (t ≡ 0 → ⊥) → o ≡ callNode (signature tree h v) n here 1 (typeOf t) os → o ≡ calledNode text gs p a n here os
+      unfolding calledNode resultOf
+      with-result y q = q ∙ (has ∙ named-some (λ s. andThen (s .result) (λ t. callNode s n here 1 t os)) e)
+        where
+          has : callNode (signature tree h v) n here 1 (typeOf t) os ≡ andThen (resultOf (word tree (h + 4))) (λ t. callNode (signature tree h v) n here 1 t os)
+          has = rw (← u, ne-eqb t 0 y) refl
 
 -- Which kind it is
 

@@ -7,7 +7,7 @@ use Prim.Native.Nat.{ℕ, _+_, _-_, _*_, _≤_, _<_, _^_}
 use native.Mathlib.Omega.{arith}
 use lib.ListN.{length, getD, drop}
 use lib.Seq.{sets, getD-drop, drop-drop, drop-at}
-use borrow.Author.Tests.{eq-eqb, ne-eqb, le-leb}
+use borrow.Author.Tests.{le-leb}
 use Rattle.language.specs.Tree.{Place, Ty, int}
 use Rattle.language.specs.Tree as T
 use Rattle.language.specs.Core as C
@@ -17,39 +17,34 @@ use Rattle.grammar.proofs.FlatLaws.{args-linear}
 use Rattle.flat.specs.Items.{codes}
 use Rattle.flat.specs.Statements.{flat}
 use Rattle.flat.specs.Words.{itemsWords, stmtWords, restLength}
-use Rattle.rules.specs.Tables.{word, part, typeOf, sameTypes, localsIn, globalAt, globalsIn, thingAt}
-use Rattle.rules.specs.Scan.{Operand, Node, Scanned, sole, uppermost, firstStart, callNode, scan}
+use Rattle.rules.specs.Tables.{part, typeOf, sameTypes, localsIn, signature}
+use Rattle.rules.specs.Scan.{Operand, Node, Scanned, sole, uppermost, firstStart, functionNamed, callNode, scan}
 use Rattle.rules.specs.Named.{NamedArgs}
 use Rattle.rules.specs.declared.Out.{Out}
 use Rattle.rules.specs.declared.Out.the-variants.{Done, Broken}
 use Rattle.rules.specs.declared.Step.{Step}
 use Rattle.rules.specs.declared.Step.the-variants as To
-use Rattle.rules.specs.Post.{FindsGlobal, globalEntry, made, operandsIn, nothing-scanned, Wrote, ScanCase, Scans, scopeOf, Stated, StmtCase}
+use Rattle.rules.specs.Post.{made, calleeOf, operandsIn, nothing-scanned, Wrote, ScanCase, Scans, scopeOf, Stated, StmtCase}
 use Rattle.rules.specs.Statements.{droppedNode, Runs}
 use Rattle.rules.proofs.Sizes.{argsOf, typesOf, sizedAll}
 use Rattle.rules.proofs.Lengths.{codes-length}
 use Rattle.rules.proofs.Lengths as N
 use Rattle.rules.proofs.Expressions.{afters, afters-words, afters-length, afters-types, args-words, fit-is, scan-args}
 use Rattle.rules.proofs.Elaborating.{Held, held, unheld}
-use Rattle.rules.proofs.Making.{entry-global, signature}
+use Rattle.rules.proofs.Making.{named-none, named-some}
 use Rattle.rules.proofs.Stating.{went, stopped, int-type}
 use Rattle.rules.proofs.Storing.{Found, two-rows}
 
 -- A call whose result is dropped, in words
 
-module _ {text tree ws : List ℕ} {count r : ℕ} (p a n : ℕ) (os : List Operand) (f : FindsGlobal text tree ws count (part text p a) r) where
-  pub no-function : r ≡ 0 → none ≡ droppedNode text (globalsIn text tree ws count) p a n os
-  unfolding droppedNode globalEntry
-  no-function e = rw (f .is, e) refl
+module _ (text tree : List ℕ) (gs : List Global) (p a : ℕ) (ok : Bool) (h v n : ℕ) (os : List Operand) (f : functionNamed text gs p a ≡ calleeOf tree ok h v) where
+  pub no-function : ok ≡ false → none ≡ droppedNode text gs p a n os
+  unfolding droppedNode
+  no-function e = named-none text tree gs p a ok h v f (λ s. callNode s n 0 0 int os) e
 
-  module _ {h k : ℕ} (z : r ≡ 0 → ⊥) (e : h ≡ word ws (2 * (r - 1))) (g : k ≡ word tree h) where
-    pub an-array : k ≡ 0 → none ≡ droppedNode text (globalsIn text tree ws count) p a n os
-    unfolding droppedNode globalAt thingAt
-    an-array d = rw (f .is, entry-global text tree ws r z, ← e, ← g, eq-eqb k 0 d) refl
-
-    pub drops : {v : ℕ} {o : Option Node} → (k ≡ 0 → ⊥) → v ≡ word ws (2 * (r - 1) + 1) → o ≡ callNode (signature tree h v) n 0 0 (typeOf 1) os → o ≡ droppedNode text (globalsIn text tree ws count) p a n os
-    unfolding droppedNode globalAt thingAt
-    drops d x q = q ∙ rw (int-type, f .is, entry-global text tree ws r z, ← e, ← g, ne-eqb k 0 d, x) refl
+  pub drops : {o : Option Node} → ok ≡ true → o ≡ callNode (signature tree h v) n 0 0 (typeOf 1) os → o ≡ droppedNode text gs p a n os
+  unfolding droppedNode
+  drops e q = q ∙ (ap (λ (t : Ty). callNode (signature tree h v) n 0 0 t os) int-type ∙ named-some text tree gs p a ok h v f (λ s. callNode s n 0 0 int os) e)
 
 -- Its own rules
 

@@ -13,7 +13,7 @@ use Rattle.rules.specs.Tables.{word, typeOf}
 use Rattle.rules.specs.Scan.{Operand, Node, Scanned, nodeOf, charged, added, scan}
 use Rattle.rules.specs.declared.Out.{Out}
 use Rattle.rules.specs.declared.Out.the-variants.{Done, Broken}
-use Rattle.rules.specs.Post.{operandsIn, Pushes, Charges, made, Room, nothing-scanned, Wrote, Scans, most-words, most-places}
+use Rattle.rules.specs.Post.{operandsIn, Pushes, Charges, made, Reads, Room, nothing-scanned, Wrote, Scans, most-words, most-places}
 use Rattle.rules.proofs.Stacks.{sets-append}
 
 -- four words of a list, and those after them
@@ -80,24 +80,24 @@ module _ {text : List ℕ} {gs : List Global} {ls : List Local} {n : ℕ} {tree 
         short [] (suc j) s = omega arith
         short (x ∷ ws) (suc j) s = short ws j (omega (arith, s))
 
-    module _ {k place a b : ℕ} (m : p + 4 * i + 4 ≤ length tree) (ek : k ≡ getD tree (p + 4 * i) 0) (ep : place ≡ getD tree (p + 4 * i + 1) 0) (ea : a ≡ getD tree (p + 4 * i + 2) 0) (eb : b ≡ getD tree (p + 4 * i + 3) 0) where
+    module _ {k place a b to : ℕ} (m : p + 4 * i + 4 ≤ length tree) (four-words : Reads tree (p + 4 * i) k place a b) (et : to ≡ 4 * i) where
       here : scan text gs ls n (drop p tree) nothing-scanned ≡
-          found (nodeOf text gs ls k place a b (4 * i) (operandsIn ts ss h)) place >>= λ v. scan text gs ls (n - (i + 1)) (drop (p + 4 * (i + 1)) tree) (added v (record { operands = operandsIn ts ss h; words = c .words }))
+          found (nodeOf text gs ls k place a b to (operandsIn ts ss h)) place >>= λ v. scan text gs ls (n - (i + 1)) (drop (p + 4 * (i + 1)) tree) (added v (record { operands = operandsIn ts ss h; words = c .words }))
       here =
-          c .rest ∙ (rw (four tree (p + 4 * i) m, ← ek, ← ep, ← ea, ← eb) (one-item text gs ls (n - i) (n - (i + 1)) k place a b (drop (p + 4 * i + 4) tree) _ (omega (arith, l))) ∙
-          at (length (c .words)) (p + 4 * i + 4) (c .size) (omega arith))
+          c .rest ∙ (rw (four tree (p + 4 * i) m, ← four-words .is-kind, ← four-words .is-place, ← four-words .is-a, ← four-words .is-b) (one-item text gs ls (n - i) (n - (i + 1)) k place a b (drop (p + 4 * i + 4) tree) _ (omega (arith, l))) ∙
+          at (length (c .words)) (p + 4 * i + 4) (c .size ∙ sym et) (omega arith))
         where
-          at : (x y : ℕ) → x ≡ 4 * i → y ≡ p + 4 * (i + 1) →
+          at : (x y : ℕ) → x ≡ to → y ≡ p + 4 * (i + 1) →
               (found (nodeOf text gs ls k place a b x (operandsIn ts ss h)) place >>= λ v. scan text gs ls (n - (i + 1)) (drop y tree) (added v (record { operands = operandsIn ts ss h; words = c .words }))) ≡
-              (found (nodeOf text gs ls k place a b (4 * i) (operandsIn ts ss h)) place >>= λ v. scan text gs ls (n - (i + 1)) (drop (p + 4 * (i + 1)) tree) (added v (record { operands = operandsIn ts ss h; words = c .words })))
+              (found (nodeOf text gs ls k place a b to (operandsIn ts ss h)) place >>= λ v. scan text gs ls (n - (i + 1)) (drop (p + 4 * (i + 1)) tree) (added v (record { operands = operandsIn ts ss h; words = c .words })))
           at x y e f = rw (e, f) refl
 
-      pub rule-broken : {ts′ ss′ core′ : List ℕ} (ok : Bool) (takes ty start begins kind u v : ℕ) → made ok takes ty start begins kind u v ≡ nodeOf text gs ls k place a b (4 * i) (operandsIn ts ss h) → ok ≡ false →
+      pub rule-broken : {ts′ ss′ core′ : List ℕ} (ok : Bool) (takes ty start begins kind u v : ℕ) → made ok takes ty start begins kind u v ≡ nodeOf text gs ls k place a b to (operandsIn ts ss h) → ok ≡ false →
           Scans text gs ls n (drop p tree) q core₀ (Broken place) ts′ ss′ core′
       unfolding made found _>>=_
       rule-broken ok takes ty start begins kind u v e f = record { by = here ∙ rw (← e, f) refl }
 
-      module _ (ok : Bool) (takes ty start begins kind u v : ℕ) {ts′ ss′ core₁ core₂ : List ℕ} {h′ : ℕ} (e : made ok takes ty start begins kind u v ≡ nodeOf text gs ls k place a b (4 * i) (operandsIn ts ss h)) (f : ok ≡ true)
+      module _ (ok : Bool) (takes ty start begins kind u v : ℕ) {ts′ ss′ core₁ core₂ : List ℕ} {h′ : ℕ} (e : made ok takes ty start begins kind u v ≡ nodeOf text gs ls k place a b to (operandsIn ts ss h)) (f : ok ≡ true)
           (x : Pushes ts ss h takes ty start h′ ts′ ss′) (y : core₁ ≡ sets core (q + 4 * i) (kind ∷ 0 ∷ u ∷ v ∷ [])) (z : Charges core₁ q (4 * i + 4) start begins core₂) (kt : length ts′ ≡ length ts) (ks : length ss′ ≡ length ss) where
         item-there : core₁ ≡ sets core₀ q (c .words ++ (kind ∷ 0 ∷ u ∷ v ∷ []))
         item-there = y ∙ (ap (λ (w : List ℕ). sets w (q + 4 * i) (kind ∷ 0 ∷ u ∷ v ∷ [])) (c .there) ∙ (ap (λ (j : ℕ). sets (sets core₀ q (c .words)) (q + j) (kind ∷ 0 ∷ u ∷ v ∷ [])) (sym (c .size)) ∙ sets-append core₀ q (c .words) (kind ∷ 0 ∷ u ∷ v ∷ [])))

@@ -251,10 +251,10 @@ module _ {text tree ws locals : List ℕ} {g l i : ℕ} (at size : ℕ) (f : Fin
       go zero = refl
       go (suc j) = rw (ne-eqb (suc j) 0 (λ (e : suc j ≡ 0). omega (arith, e))) refl
 
-module _ (text : List ℕ) (gs : List Global) (locals : List ℕ) (l count : ℕ) (result : Option Ty) (at size wanted : ℕ) {n : ℕ} (rest : ℕ) {ws : List ℕ} (q : ℕ) {core : List ℕ} {r : Given} {core₁ : List ℕ}
+module _ (text : List ℕ) (gs : List Global) (locals : List ℕ) (l count : ℕ) (result : Option Ty) (at size : ℕ) (u : Ty) {n : ℕ} (rest : ℕ) {ws : List ℕ} (q : ℕ) {core : List ℕ} {r : Given} {core₁ : List ℕ}
     (x : Elaborates text gs (localsIn text locals l) n ws (q + 8) core r core₁) where
   abbrev let-of : T.Expr → T.Stmt
-  let-of e = T.declare at (part text at size) (typeOf wanted) e
+  let-of e = T.declare at (part text at size) u e
 
   abbrev stmt-of : T.Expr → Ruled (C.Stmt × Scope gs)
   stmt-of e = stmt gs result (let-of e) (scopeOf gs text locals l count)
@@ -269,10 +269,13 @@ module _ (text : List ℕ) (gs : List Global) (locals : List ℕ) (l count : ℕ
   pub declare-fault : {b : Place} {locals₂ core₂ : List ℕ} → r ≡ Is.Broken b → States text gs locals l count result (λ e. let-of e) n rest ws q core (To.Broken b) locals₂ core₂
   declare-fault d = record { by = λ e more ew en er nm. declare-stop e (faulty q x e more ew en nm d) }
 
-  module _ {ty : ℕ} {b : Bool} (d : r ≡ Is.Type ty) (y : b ≡ sameTy (typeOf wanted) (typeOf ty)) where
+  module _ {ty : ℕ} (wanted : ℕ) {b : Bool} (d : r ≡ Is.Type ty) (v : typeOf wanted ≡ u) (y : b ≡ sameTy (typeOf wanted) (typeOf ty)) where
+    the-test : b ≡ sameTy u (typeOf ty)
+    the-test = y ∙ ap (λ (t : Ty). sameTy t (typeOf ty)) v
+
     declare-off : (e : T.Expr) → Typed-as (expr-of e) (q + 8) core ty core₁ → b ≡ false → stmt-of e ≡ breaks at
     unfolding stmt
-    declare-off e t f = went _ (t .is) (stopped _ (want-wrong (typeOf wanted) at (t .value) (t .type) y f))
+    declare-off e t f = went _ (t .is) (stopped _ (want-wrong u at (t .value) (t .type) the-test f))
 
     pub declare-wrong : {locals₂ core₂ : List ℕ} → b ≡ false → States text gs locals l count result (λ e. let-of e) n rest ws q core (To.Broken at) locals₂ core₂
     declare-wrong f = record { by = λ e more ew en er nm. declare-off e (typed q x e more ew en nm d) f }
@@ -280,7 +283,7 @@ module _ (text : List ℕ) (gs : List Global) (locals : List ℕ) (l count : ℕ
     module _ {c : Bool} (f : b ≡ true) (z : Freshly text gs locals l at size c) where
       declare-taken : (e : T.Expr) → Typed-as (expr-of e) (q + 8) core ty core₁ → c ≡ false → stmt-of e ≡ breaks at
       unfolding stmt need
-      declare-taken e t k = went _ (t .is) (went _ (want-fine (typeOf wanted) at (t .value) (t .type) y f) (stopped _ (z .is ∙ ap (λ (v : Bool). need v at) k)))
+      declare-taken e t k = went _ (t .is) (went _ (want-fine u at (t .value) (t .type) the-test f) (stopped _ (z .is ∙ ap (λ (v : Bool). need v at) k)))
 
       pub declare-again : {locals₂ core₂ : List ℕ} → c ≡ false → States text gs locals l count result (λ e. let-of e) n rest ws q core (To.Broken at) locals₂ core₂
       declare-again k = record { by = λ e more ew en er nm. declare-taken e (typed q x e more ew en nm d) k }
@@ -292,7 +295,7 @@ module _ (text : List ℕ) (gs : List Global) (locals : List ℕ) (l count : ℕ
 
         declare-full : (e : T.Expr) → Typed-as (expr-of e) (q + 8) core ty core₁ → 64 ≤ count → stmt-of e ≡ breaks at
         unfolding stmt need
-        declare-full e t m = went _ (t .is) (went _ (want-fine (typeOf wanted) at (t .value) (t .type) y f) (went _ is-fresh (stopped _ (ap (λ (v : Bool). need v at) (le-ltb count 64 m)))))
+        declare-full e t m = went _ (t .is) (went _ (want-fine u at (t .value) (t .type) the-test f) (went _ is-fresh (stopped _ (ap (λ (v : Bool). need v at) (le-ltb count 64 m)))))
 
         pub declare-many : {locals₂ core₂ : List ℕ} → 64 ≤ count → States text gs locals l count result (λ e. let-of e) n rest ws q core (To.Broken at) locals₂ core₂
         declare-many m = record { by = λ e more ew en er nm. declare-full e (typed q x e more ew en nm d) m }
@@ -302,7 +305,7 @@ module _ (text : List ℕ) (gs : List Global) (locals : List ℕ) (l count : ℕ
         unfolding stmt need flat stmtWords restLength headed
         declare-at e {locals₂} t m w c′ = record {
           value = C.put count (t .value .expr);
-          is = went _ (t .is) (went _ (want-fine (typeOf wanted) at (t .value) (t .type) y f) (went _ is-fresh (went _ (ap (λ (v : Bool). need v at) (lt-ltb count 64 m)) (rw (w .is text, add-one count) refl))));
+          is = went _ (t .is) (went _ (want-fine u at (t .value) (t .type) the-test f) (went _ is-fresh (went _ (ap (λ (v : Bool). need v at) (lt-ltb count 64 m)) (rw (w .is text, add-one count, v) refl))));
           there = c′;
         }
 

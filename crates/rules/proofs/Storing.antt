@@ -3,7 +3,7 @@ use mathlib.Core.Path.{_≡_, refl, sym, ap, subst, _∙_}
 use mathlib.Core.Bool.{Bool, true, false}
 use mathlib.Core.List.{List, [], _∷_, _++_}
 use mathlib.Core.Option.{Option, none, some}
-use Prim.Native.Nat.{ℕ, _+_, _*_, _<_}
+use Prim.Native.Nat.{ℕ, _+_, _*_, _≤_}
 use native.Mathlib.Omega.{arith}
 use lib.ListN.{length, drop}
 use lib.Seq.{sets}
@@ -156,7 +156,7 @@ module _ (text : List ℕ) (gs : List Global) (locals : List ℕ) (l count : ℕ
   pub index-fault : {b : Place} {core′ : List ℕ} → r₁ ≡ Is.Broken b → Said (To.Broken b) core′
   index-fault d = record { by = λ i e more ew en em er ni ne. index-stop i e (faulty q x i (G.exprWords e more) ew en ni d) }
 
-  module _ {index : ℕ} (d : r₁ ≡ Is.Type index) {us : List ℕ} {r₂ : Given} {core₂ : List ℕ} (y : Elaborates text gs (localsIn text locals l) m us (q + 8 + 4 * n) core₁ r₂ core₂) (eu : us ≡ drop (4 * n) ws) where
+  module _ {index : ℕ} (d : r₁ ≡ Is.Type index) {us : List ℕ} {r₂ : Given} {core₂ : List ℕ} (y : 4 * n ≤ rest → Elaborates text gs (localsIn text locals l) m us (q + 8 + 4 * n) core₁ r₂ core₂) (eu : us ≡ drop (4 * n) ws) where
     second : (i e : T.Expr) (more : List ℕ) → ws ≡ G.exprWords i (G.exprWords e more) → n ≡ G.size i → us ≡ G.exprWords e more
     second i e more ew en = eu ∙ (ap (drop (4 * n)) ew ∙ past-expr i (4 * n) (G.exprWords e more) (omega (arith, en)))
 
@@ -164,12 +164,12 @@ module _ (text : List ℕ) (gs : List Global) (locals : List ℕ) (l count : ℕ
     unfolding stmt
     value-stop i e t f = went _ (t .is) (stopped _ f)
 
-    the-value : (i e : T.Expr) (more : List ℕ) → ws ≡ G.exprWords i (G.exprWords e more) → n ≡ G.size i → m ≡ G.size e → NamedExpr text e → ExprCase (expr-of e) (q + 8 + 4 * n) core₁ r₂ core₂
-    the-value i e more ew en em ne = y .by e more (second i e more ew en) em ne
+    the-value : (i e : T.Expr) (more : List ℕ) → ws ≡ G.exprWords i (G.exprWords e more) → n ≡ G.size i → m ≡ G.size e → rest ≡ G.exprLength i + G.exprLength e → NamedExpr text e → ExprCase (expr-of e) (q + 8 + 4 * n) core₁ r₂ core₂
+    the-value i e more ew en em er ne = y (omega (arith, en, er, expr-words i [])) .by e more (second i e more ew en) em ne
 
     pub value-fault : {b : Place} {core′ : List ℕ} → r₂ ≡ Is.Broken b → Said (To.Broken b) core′
     value-fault f = record {
-      by = λ i e more ew en em er ni ne. value-stop i e (typed q x i (G.exprWords e more) ew en ni d) (subst (λ (o : Given). ExprCase (expr-of e) (q + 8 + 4 * n) core₁ o core₂) f (the-value i e more ew en em ne));
+      by = λ i e more ew en em er ni ne. value-stop i e (typed q x i (G.exprWords e more) ew en ni d) (subst (λ (o : Given). ExprCase (expr-of e) (q + 8 + 4 * n) core₁ o core₂) f (the-value i e more ew en em er ne));
     }
 
     module _ {value : ℕ} (f : r₂ ≡ Is.Type value) where
@@ -185,7 +185,7 @@ module _ (text : List ℕ) (gs : List Global) (locals : List ℕ) (l count : ℕ
           Said r core′
       decided k = record {
         by = λ i e more ew en em er ni ne.
-            k i e (typed q x i (G.exprWords e more) ew en ni d) (subst (λ (o : Given). ExprCase (expr-of e) (q + 8 + 4 * n) core₁ o core₂) f (the-value i e more ew en em ne)) en em er;
+            k i e (typed q x i (G.exprWords e more) ew en ni d) (subst (λ (o : Given). ExprCase (expr-of e) (q + 8 + 4 * n) core₁ o core₂) f (the-value i e more ew en em er ne)) en em er;
       }
 
       value-off : (i e : T.Expr) → Index i → Value e → sameTy int (typeOf value) ≡ false → stmt-of i e ≡ breaks at
@@ -229,8 +229,3 @@ module _ (text : List ℕ) (gs : List Global) (locals : List ℕ) (l count : ℕ
         pub store-next : {b : Bool} {core₃ : List ℕ} → ok ≡ true → b ≡ sameTy (typeOf 1) (typeOf value) → b ≡ true → core₃ ≡ sets core₂ q (1 ∷ u ∷ v ∷ n ∷ m ∷ 0 ∷ 0 ∷ rest ∷ []) → Said (To.Next l count) core₃
         store-next h w k c = decided (λ i e a b en em er. store-at i e a b h (ap (λ (u : Ty). sameTy u (typeOf value)) (sym int-type) ∙ (sym w ∙ k)) (store-words i e a b en c) (en ∙ sym (items-many gs (localsIn text locals l) i a)) (em ∙ sym (items-many gs (localsIn text locals l) e b))
             (omega (arith, er, expr-words i [], expr-words e [], items-many gs (localsIn text locals l) i a, items-many gs (localsIn text locals l) e b)))
-
--- more items than words
-pub store-short : {text : List ℕ} {gs : List Global} {locals : List ℕ} {l count : ℕ} {result : Option Ty} {build : T.Expr → T.Expr → T.Stmt} {n m rest : ℕ} {ws : List ℕ} {q : ℕ} {core core′ : List ℕ} → rest < 4 * n →
-    States-two text gs locals l count result build n m rest ws q core (To.Broken 0) locals core′
-store-short h = record { by = λ i e more ew en em er ni ne. absurd (omega (arith, h, en, er, expr-words i [])) }

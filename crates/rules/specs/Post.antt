@@ -11,12 +11,12 @@ use Rattle.language.specs.Tree.{Name}
 use Rattle.language.specs.Tree.{Ty}
 use Rattle.language.specs.Tree as T
 use Rattle.language.specs.Core as C
-use Rattle.language.specs.Rules.{Ruled, keeps, breaks, Global, Local, Typed, Scope, globalOf, localOf, fresh, need, expr, stmt}
+use Rattle.language.specs.Rules.{Ruled, keeps, breaks, Global, Local, Signature, Typed, Scope, globalOf, localOf, fresh, need, expr, stmt}
 use Rattle.grammar.specs.Flat as G
 use Rattle.flat.specs.Items.{code}
 use Rattle.flat.specs.Statements.{flat}
 use Rattle.flat.specs.Words.{itemsWords, stmtWords, restLength}
-use Rattle.rules.specs.Tables.{word, part, typeOf, localAt, localsIn, globalAt, globalsIn}
+use Rattle.rules.specs.Tables.{word, part, typeOf, localAt, localsIn, globalAt, globalsIn, signature}
 use Rattle.rules.specs.Scan.{Operand, no-operand, Node, Scanned, charged, scan}
 use Rattle.rules.specs.Named.{NamedExpr}
 use Rattle.rules.specs.declared.Given.{Given}
@@ -72,6 +72,17 @@ pub record Charges (core : List ℕ) (q size start n : ℕ) (core′ : List ℕ)
 unfoldable pub made : Bool → ℕ → ℕ → ℕ → ℕ → ℕ → ℕ → ℕ → Option Node
 made ok takes ty start begins kind a b =
     pick ok (some (record { takes = takes; type = typeOf ty; start = start; begins = begins; kind = kind; a = a; b = b })) none
+
+-- the function that is found, if there is one
+unfoldable pub calleeOf : List ℕ → Bool → ℕ → ℕ → Option Signature
+calleeOf tree ok header number = pick ok (some (signature tree header number)) none
+
+-- the four words of an item
+pub record Reads (ws : List ℕ) (p kind place a b : ℕ) : Type 0 where
+  pub is-kind : kind ≡ word ws p
+  pub is-place : place ≡ word ws (p + 1)
+  pub is-a : a ≡ word ws (p + 2)
+  pub is-b : b ≡ word ws (p + 3)
 
 -- The room that is lent: an operand for each item of the tree, and as many words for the core from q on as the tree has from p on.
 

@@ -87,6 +87,10 @@ joinNode x y = sole (both (sameTy bool (x .type)) (sameTy bool (y .type))) (reco
 abbrev pub firstStart : ℕ → ℕ → List Operand → ℕ
 firstStart n here os = pick (eqb n 0) here (getD os (n - 1) no-operand .start)
 
+-- the function of this name
+unfoldable pub functionNamed : List ℕ → List Global → ℕ → ℕ → Option Signature
+functionNamed text globals p a = andThen (globalOf globals (part text p a)) (λ g. isFunction (g .thing))
+
 -- a call of function s with n arguments: its operand has this type, if the arguments fit
 unfoldable pub callNode : Signature → ℕ → ℕ → ℕ → Ty → List Operand → Option Node
 callNode s n here begins t os =

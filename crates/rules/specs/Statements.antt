@@ -6,7 +6,7 @@ use mathlib.Core.List.{List, [], _∷_}
 use mathlib.Core.Option.{Option}
 use Prim.Native.Nat.{ℕ, _+_, _*_, _≤_, _<_}
 use lib.Dec.{eqb}
-use lib.ListN.{length}
+use lib.ListN.{length, drop}
 use lib.Seq.{sets}
 use Rattle.word.specs.Choice.{pick}
 use Rattle.language.specs.Tree.{Ty, int, bool}
@@ -75,6 +75,10 @@ pub record StmtRoom (tree : List ℕ) (g : ℕ) (locals : List ℕ) (l count : �
 
 -- Statements
 
+-- the type that a declaration of this kind declares
+unfoldable pub declaredType : ℕ → Ty
+declaredType k = pick (eqb k 10) bool int
+
 -- two expressions, of n and m items, in rest words at ws
 pub record States-two (text : List ℕ) (globals : List Global) (locals : List ℕ) (l count : ℕ) (result : Option Ty) (build : T.Expr → T.Expr → T.Stmt) (n m rest : ℕ) (ws : List ℕ) (q : ℕ) (core : List ℕ) (r : Step)
     (locals′ core′ : List ℕ) : Type 0 where
@@ -141,6 +145,20 @@ pub record Blocks (text : List ℕ) (globals : List Global) (locals : List ℕ) 
       BlockCase b (block globals result b (scopeOf globals text locals l counted)) q core r core′
   pub kept : (i : ℕ) → i < 4 * l → word locals′ i ≡ word locals i
   pub bounded : CountCase counted r
+
+-- The blocks of a statement at p: n statements a words on, then, with what those counted, m statements b words on
+
+abbrev pub OtherCase : List ℕ → List Global → ℕ → Option Ty → ℕ → List ℕ → ℕ → Counted → List ℕ → List ℕ → Counted → List ℕ → List ℕ → Type 0
+OtherCase text globals l result m ws q (Now.Count counted) locals core r locals′ core′ = Blocks text globals locals l counted result m ws q core r locals′ core′
+OtherCase text globals l result m ws q (Now.Broken at) locals core r locals′ core′ = (r ≡ Now.Broken at) × (locals′ ≡ locals)
+
+pub record Branches (text : List ℕ) (globals : List Global) (locals : List ℕ) (l counted : ℕ) (result : Option Ty) (tree : List ℕ) (p q a n b m : ℕ) (core : List ℕ) (r : Counted) (locals′ core′ : List ℕ) : Type 0 where
+  -- after the first
+  pub given : Counted
+  pub locals₁ : List ℕ
+  pub core₁ : List ℕ
+  pub body : Blocks text globals locals l counted result n (drop (p + a) tree) (q + a) core given locals₁ core₁
+  pub other : OtherCase text globals l result m (drop (p + b) tree) (q + b) given locals₁ core₁ r locals′ core′
 
 -- whether a statement is a return, and whether n statements end in one
 pub record Returns (ws : List ℕ) (r : Bool) : Type 0 where

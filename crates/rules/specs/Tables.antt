@@ -8,7 +8,7 @@ use lib.Dec.{eqb}
 use lib.ListN.{getD}
 use Rattle.word.specs.Choice.{pick, both}
 use Rattle.language.specs.Tree.{Name, Ty, int, bool}
-use Rattle.language.specs.Rules.{Global, Local, Thing, anArray, aFunction, sameTy}
+use Rattle.language.specs.Rules.{Global, Local, Thing, Signature, anArray, aFunction, sameTy}
 
 abbrev pub word : List ℕ → ℕ → ℕ
 word ws i = getD ws i 0
@@ -54,10 +54,13 @@ localsIn text ws (suc n) = localAt text ws n ∷ localsIn text ws n
 abbrev pub global-words : ℕ
 global-words = 2
 
+-- the signature of function v, whose header stands at h
+abbrev pub signature : List ℕ → ℕ → ℕ → Signature
+signature tree h v = record { number = v; parameters = typesFrom tree 3 (h + 10) (word tree (h + 3)); result = resultOf (word tree (h + 4)) }
+
 unfoldable pub thingAt : List ℕ → ℕ → ℕ → Thing
 thingAt tree h v =
-    pick (eqb (word tree h) 0) (anArray (record { offset = v; size = word tree (h + 3) }))
-    (aFunction (record { number = v; parameters = typesFrom tree 3 (h + 10) (word tree (h + 3)); result = resultOf (word tree (h + 4)) }))
+    pick (eqb (word tree h) 0) (anArray (record { offset = v; size = word tree (h + 3) })) (aFunction (signature tree h v))
 
 unfoldable pub globalAt : List ℕ → List ℕ → List ℕ → ℕ → Global
 globalAt text tree ws i =

@@ -1,15 +1,16 @@
 // Blocks, statement by statement, and statements that have blocks. A block's locals end with it, and stay counted.
 ghost use mathlib.Core.Path.{_≡_};
-ghost use Prim.Native.Nat.{_+_, _≤_};
+ghost use Prim.Native.Nat.{_+_, _*_, _≤_};
 ghost use lib.ListN.{length, drop};
 ghost use lib.Seq.{sets};
 ghost use Rattle.rules.specs.Tables.{resultOf, localsIn, globalsIn};
 ghost use Rattle.rules.specs.Post.{Room};
-ghost use Rattle.rules.specs.Statements.{Heads, Moves, BlockRoom, StmtRoom, Statement, Conditions, nestWords, Blocks, holdsBlocks};
+ghost use Rattle.rules.specs.Statements.{Heads, Moves, BlockRoom, StmtRoom, Statement, Conditions, nestWords, Branches, Blocks, holdsBlocks};
 use crate::Counted;
 use crate::Given;
+use crate::Spot;
 use crate::Step;
-use crate::expression::expression;
+use crate::expression::first_expression;
 use crate::head::Head;
 use crate::head::header;
 use crate::head::header_at;
@@ -34,44 +35,27 @@ fn holds_blocks(k: u32) -> bool
     k == WHEN
 }
 
-// "conditions take bools": the condition of n items from p on, which is reported at a place.
+// "conditions take bools": the condition of the statement whose header stands here.
 fn condition(
     text: &[u8],
     tree: &[u32],
     globals: &[u32],
-    g: usize,
     locals: &[u32],
-    l: usize,
     types: &mut [u32],
     starts: &mut [u32],
     core: &mut [u32],
-    p: usize,
-    q: usize,
-    n: u32,
-    at: u32,
+    spot: Spot,
+    head: Head,
 ) -> Given
-    requires { ⌜ Room (now tree) g l (now types) (now starts) (now core) p q ⌝ }
-    ensures { λ r. ⌜ Conditions (now (text .entry)) (globalsIn (now (text .entry)) (now (tree .entry)) (now (globals .entry)) g) (localsIn (now (text .entry)) (now (locals .entry)) l)
-        at n (drop p (now (tree .entry))) q (now (core .entry)) r (now (core .exit)) ⌝ }
+    requires { ⌜ Room (now tree) (spot .globals) (spot .visible) (now types) (now starts) (now core) (spot .tree + 8) (spot .core + 8) ⌝ }
+    ensures { λ r. ⌜ Conditions (now (text .entry)) (globalsIn (now (text .entry)) (now (tree .entry)) (now (globals .entry)) (spot .globals)) (localsIn (now (text .entry)) (now (locals .entry)) (spot .visible))
+        (head .at) (head .first) (drop (spot .tree + 8) (now (tree .entry))) (spot .core + 8) (now (core .entry)) r (now (core .exit)) ⌝ }
 {
-    let r = expression(
-        text,
-        tree,
-        globals,
-        g,
-        locals,
-        l,
-        types,
-        starts,
-        core,
-        p,
-        q,
-        n,
-    );
+    let r = first_expression(text, tree, globals, locals, types, starts, core, spot, head);
     match r {
         Given::Type(ty) => {
             if !same_type(BOOL, ty) {
-                return Given::Broken(at);
+                return Given::Broken(head.at);
             }
             Given::Type(ty)
         }
@@ -113,176 +97,117 @@ fn nest(core: &mut [u32], q: usize, head: Head)
     );
 }
 
-// A statement. If it has blocks, its condition comes first, then its body, then its other block, which is empty unless there is an `else`.
+// The body of the statement whose header stands here, then its other block, which is empty unless there is an `else`.
+fn branches(
+    text: &[u8],
+    tree: &[u32],
+    globals: &[u32],
+    locals: &mut [u32],
+    types: &mut [u32],
+    starts: &mut [u32],
+    core: &mut [u32],
+    spot: Spot,
+    head: Head,
+) -> Counted
+    requires { ⌜ StmtRoom (now tree) (spot .globals) (now locals) (spot .visible) (spot .count) (now types) (now starts) (now core) (spot .tree) (spot .core) (head .rest) × (4 * head .first + head .size ≤ head .rest) ⌝ }
+    ensures { λ r. ⌜ Branches (now (text .entry)) (globalsIn (now (text .entry)) (now (tree .entry)) (now (globals .entry)) (spot .globals)) (now (locals .entry)) (spot .visible) (spot .count) (resultOf (spot .result)) (now (tree .entry)) (spot .tree) (spot .core)
+        (8 + 4 * head .first) (head .body) (8 + 4 * head .first + head .size) (head .other) (now (core .entry)) r (now (locals .exit)) (now (core .exit)) ⌝ }
+{
+    let a = 8 + 4 * head.first as usize;
+    let mut body = spot;
+    body.tree += a;
+    body.core += a;
+    let n = head.body;
+    let r = block(text, tree, globals, locals, types, starts, core, body, n);
+    match r {
+        Counted::Count(count) => {
+            let b = a + head.size as usize;
+            let mut other = spot;
+            other.tree += b;
+            other.core += b;
+            other.count = count;
+            let m = head.other;
+            block(text, tree, globals, locals, types, starts, core, other, m)
+        }
+        Counted::Broken(at) => Counted::Broken(at),
+    }
+}
+
+// A statement. If it has blocks, its condition comes first, then both, then its header.
 fn stmt(
     text: &[u8],
     tree: &[u32],
     globals: &[u32],
-    g: usize,
     locals: &mut [u32],
-    l: usize,
     types: &mut [u32],
     starts: &mut [u32],
     core: &mut [u32],
-    p: usize,
-    q: usize,
+    spot: Spot,
     head: Head,
-    count: u32,
-    result: u32,
 ) -> Step
-    requires { ⌜ StmtRoom (now tree) g (now locals) l count (now types) (now starts) (now core) p q (head .rest) × Heads (drop p (now tree)) (head .kind) (head .at) (head .size) (head .first) (head .second) (head .body) (head .other) (head .rest) ⌝ }
-    ensures { λ r. ⌜ Statement (now (text .entry)) (globalsIn (now (text .entry)) (now (tree .entry)) (now (globals .entry)) g) (now (locals .entry)) l count (resultOf result)
-        (drop p (now (tree .entry))) q (now (core .entry)) r (now (locals .exit)) (now (core .exit)) ⌝ }
-    ensures { λ r. ⌜ Moves l count (now (locals .entry)) r (now (locals .exit)) ⌝ }
+    requires { ⌜ StmtRoom (now tree) (spot .globals) (now locals) (spot .visible) (spot .count) (now types) (now starts) (now core) (spot .tree) (spot .core) (head .rest) × Heads (drop (spot .tree) (now tree)) (head .kind) (head .at) (head .size) (head .first) (head .second) (head .body) (head .other) (head .rest) ⌝ }
+    ensures { λ r. ⌜ Statement (now (text .entry)) (globalsIn (now (text .entry)) (now (tree .entry)) (now (globals .entry)) (spot .globals)) (now (locals .entry)) (spot .visible) (spot .count) (resultOf (spot .result))
+        (drop (spot .tree) (now (tree .entry))) (spot .core) (now (core .entry)) r (now (locals .exit)) (now (core .exit)) ⌝ }
+    ensures { λ r. ⌜ Moves (spot .visible) (spot .count) (now (locals .entry)) r (now (locals .exit)) ⌝ }
 {
     if !holds_blocks(head.kind) {
-        return simple(
-            text,
-            tree,
-            globals,
-            g,
-            locals,
-            l,
-            types,
-            starts,
-            core,
-            p,
-            q,
-            head,
-            count,
-            result,
-        );
+        return simple(text, tree, globals, locals, types, starts, core, spot, head);
     }
-    let a = 8 + 4 * head.first as usize;
-    let b = a + head.size as usize;
-    if 8 + (head.rest as usize) < b {
+    if (head.rest as usize) < 4 * head.first as usize + head.size as usize {
         return Step::Broken(0);
     }
-    let c = condition(
-        text,
-        tree,
-        globals,
-        g,
-        locals,
-        l,
-        types,
-        starts,
-        core,
-        p + 8,
-        q + 8,
-        head.first,
-        head.at,
-    );
+    let c = condition(text, tree, globals, locals, types, starts, core, spot, head);
     if let Given::Broken(at) = c {
         return Step::Broken(at);
     }
-    let r = block(
-        text,
-        tree,
-        globals,
-        g,
-        locals,
-        l,
-        types,
-        starts,
-        core,
-        p + a,
-        q + a,
-        head.body,
-        count,
-        result,
-    );
+    let r = branches(text, tree, globals, locals, types, starts, core, spot, head);
     match r {
         Counted::Count(n) => {
-            let s = block(
-                text,
-                tree,
-                globals,
-                g,
-                locals,
-                l,
-                types,
-                starts,
-                core,
-                p + b,
-                q + b,
-                head.other,
-                n,
-                result,
-            );
-            match s {
-                Counted::Count(m) => {
-                    nest(core, q, head);
-                    Step::Next(l, m)
-                }
-                Counted::Broken(at) => Step::Broken(at),
-            }
+            nest(core, spot.core, head);
+            Step::Next(spot.visible, n)
         }
         Counted::Broken(at) => Step::Broken(at),
     }
 }
 
-// The n statements from p on, and their core from q on.
+// The n statements from here on.
 pub fn block(
     text: &[u8],
     tree: &[u32],
     globals: &[u32],
-    g: usize,
     locals: &mut [u32],
-    l: usize,
     types: &mut [u32],
     starts: &mut [u32],
     core: &mut [u32],
-    p: usize,
-    q: usize,
+    spot: Spot,
     n: u32,
-    count: u32,
-    result: u32,
 ) -> Counted
-    requires { ⌜ BlockRoom (now tree) g (now locals) l count (now types) (now starts) (now core) p q ⌝ }
-    ensures { λ r. ⌜ Blocks (now (text .entry)) (globalsIn (now (text .entry)) (now (tree .entry)) (now (globals .entry)) g) (now (locals .entry)) l count (resultOf result)
-        n (drop p (now (tree .entry))) q (now (core .entry)) r (now (locals .exit)) (now (core .exit)) ⌝ }
+    requires { ⌜ BlockRoom (now tree) (spot .globals) (now locals) (spot .visible) (spot .count) (now types) (now starts) (now core) (spot .tree) (spot .core) ⌝ }
+    ensures { λ r. ⌜ Blocks (now (text .entry)) (globalsIn (now (text .entry)) (now (tree .entry)) (now (globals .entry)) (spot .globals)) (now (locals .entry)) (spot .visible) (spot .count) (resultOf (spot .result))
+        n (drop (spot .tree) (now (tree .entry))) (spot .core) (now (core .entry)) r (now (locals .exit)) (now (core .exit)) ⌝ }
 {
-    let mut at = p;
-    let mut to = q;
-    let mut visible = l;
-    let mut counted = count;
+    let mut here = spot;
     let mut i: u32 = 0;
     while i < n {
-        if tree.len() < at + 8 {
+        if tree.len() < here.tree + 8 {
             return Counted::Broken(0);
         }
-        let head = header_at(tree, at);
+        let head = header_at(tree, here.tree);
         let size = 8 + head.rest as usize;
-        if tree.len() < at + size {
+        if tree.len() < here.tree + size {
             return Counted::Broken(0);
         }
-        let r = stmt(
-            text,
-            tree,
-            globals,
-            g,
-            locals,
-            visible,
-            types,
-            starts,
-            core,
-            at,
-            to,
-            head,
-            counted,
-            result,
-        );
+        let r = stmt(text, tree, globals, locals, types, starts, core, here, head);
         match r {
-            Step::Next(v, c) => {
-                visible = v;
-                counted = c;
+            Step::Next(visible, count) => {
+                here.visible = visible;
+                here.count = count;
             }
             Step::Broken(b) => return Counted::Broken(b),
         }
-        at += size;
-        to += size;
+        here.tree += size;
+        here.core += size;
         i += 1;
     }
-    Counted::Count(counted)
+    Counted::Count(here.count)
 }

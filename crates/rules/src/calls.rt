@@ -2,16 +2,18 @@
 ghost use mathlib.Core.Path.{_≡_};
 ghost use Prim.Native.Nat.{ℕ, _+_, _≤_};
 ghost use Rattle.language.specs.Tree.{Ty};
-ghost use Rattle.rules.specs.Tables.{word as wordOf, typeOf, resultOf, typesFrom, globalsIn};
-ghost use Rattle.rules.specs.Scan.{firstStart, callNode, calledNode};
-ghost use Rattle.rules.specs.Post.{made, most-entries, most-places, operandsIn};
+ghost use Rattle.rules.specs.Tables.{typeOf, globalsIn, signature};
+ghost use Rattle.rules.specs.Scan.{firstStart, functionNamed, callNode, calledNode};
+ghost use Rattle.rules.specs.Post.{made, calleeOf, most-entries, most-places, operandsIn};
 ghost use Rattle.rules.specs.Statements.{droppedNode};
+use crate::head::Head;
 use crate::names::GLOBAL_VALUE;
 use crate::names::GLOBAL_WORDS;
 use crate::names::find_global;
 use crate::names::word;
 use crate::nodes::ARRAY;
 use crate::nodes::Made;
+use crate::nodes::TreeItem;
 use crate::nodes::broken;
 use crate::operands::top;
 use crate::types::INT;
@@ -36,27 +38,64 @@ pub fn first_start(types: &[u32], starts: &[u32], h: usize, n: u32, here: u32) -
     o.start
 }
 
+// A function: where its header stands in the tree, and its number; or there is none.
+pub struct Callee {
+    pub ok: bool,
+    pub header: u32,
+    pub number: u32,
+}
+
+// The function whose name is the n bytes from a on.
+pub fn find_function(text: &[u8], tree: &[u32], globals: &[u32], g: usize, a: u32, n: u32) -> Callee
+    requires { ⌜ g ≤ most-entries ⌝ }
+    ensures { λ r. ⌜ functionNamed (now (text .entry)) (globalsIn (now (text .entry)) (now (tree .entry)) (now (globals .entry)) g) a n ≡ calleeOf (now (tree .entry)) (r .ok) (r .header) (r .number) ⌝ }
+{
+    let i = find_global(text, tree, globals, g, a, n);
+    if i == 0 {
+        return Callee {
+            ok: false,
+            header: 0,
+            number: 0,
+        };
+    }
+    let at = GLOBAL_WORDS * (i - 1);
+    let header = word(globals, at);
+    let kind = word(tree, header as usize);
+    if kind == ARRAY {
+        return Callee {
+            ok: false,
+            header: 0,
+            number: 0,
+        };
+    }
+    let number = word(globals, at + GLOBAL_VALUE);
+    Callee {
+        ok: true,
+        header,
+        number,
+    }
+}
+
 // A call of the function at a header, with the n uppermost operands.
 pub fn arguments(
     tree: &[u32],
     types: &[u32],
     starts: &[u32],
     h: usize,
-    header: usize,
-    number: u32,
+    f: Callee,
     n: u32,
     here: u32,
     begins: u32,
     ty: u32,
 ) -> Made
-    requires { ⌜ (h ≤ most-places) × (header + 10 ≤ most-places) ⌝ }
+    requires { ⌜ h ≤ most-places ⌝ }
     ensures { λ r. ⌜ made (r .ok) (r .takes) (r .ty) (r .start) (r .begins) (r .kind) (r .a) (r .b) ≡
-        callNode (record { number = number; parameters = typesFrom (now (tree .entry)) 3 (header + 10) (wordOf (now (tree .entry)) (header + 3)); result = resultOf (wordOf (now (tree .entry)) (header + 4)) })
-        n here begins (typeOf ty) (operandsIn (now (types .entry)) (now (starts .entry)) h) ⌝ }
+        callNode (signature (now (tree .entry)) (f .header) (f .number)) n here begins (typeOf ty) (operandsIn (now (types .entry)) (now (starts .entry)) h) ⌝ }
 {
     if h < n as usize {
         return broken();
     }
+    let header = f.header as usize;
     let m = word(tree, header + PARAMETERS);
     if m != n {
         return broken();
@@ -72,7 +111,7 @@ pub fn arguments(
         start,
         begins,
         kind: item::CALL,
-        a: number,
+        a: f.number,
         b: n,
     }
 }
@@ -82,64 +121,46 @@ pub fn call(
     text: &[u8],
     tree: &[u32],
     globals: &[u32],
-    count: usize,
-    p: u32,
-    a: u32,
-    n: u32,
-    here: u32,
+    g: usize,
     types: &[u32],
     starts: &[u32],
     h: usize,
+    this: TreeItem,
 ) -> Made
-    requires { ⌜ (count ≤ most-entries) × (h ≤ most-places) ⌝ }
+    requires { ⌜ (g ≤ most-entries) × (h ≤ most-places) ⌝ }
     ensures { λ r. ⌜ made (r .ok) (r .takes) (r .ty) (r .start) (r .begins) (r .kind) (r .a) (r .b) ≡
-        calledNode (now (text .entry)) (globalsIn (now (text .entry)) (now (tree .entry)) (now (globals .entry)) count) p a n here (operandsIn (now (types .entry)) (now (starts .entry)) h) ⌝ }
+        calledNode (now (text .entry)) (globalsIn (now (text .entry)) (now (tree .entry)) (now (globals .entry)) g) (this .place) (this .a) (this .b) (this .here) (operandsIn (now (types .entry)) (now (starts .entry)) h) ⌝ }
 {
-    let i = find_global(text, tree, globals, count, p, a);
-    if i == 0 {
+    let f = find_function(text, tree, globals, g, this.place, this.a);
+    if !f.ok {
         return broken();
     }
-    let at = GLOBAL_WORDS * (i - 1);
-    let header = word(globals, at) as usize;
-    let kind = word(tree, header);
-    if kind == ARRAY {
-        return broken();
-    }
-    let ty = word(tree, header + RESULT);
+    let ty = word(tree, f.header as usize + RESULT);
     if ty == 0 {
         return broken();
     }
-    let number = word(globals, at + GLOBAL_VALUE);
-    arguments(tree, types, starts, h, header, number, n, here, 1, ty)
+    arguments(tree, types, starts, h, f, this.b, this.here, 1, ty)
 }
 
-// A call whose result, if the function has one, is dropped.
+// A call as a statement, with n arguments: its result, if the function has one, is dropped.
 pub fn dropped(
     text: &[u8],
     tree: &[u32],
     globals: &[u32],
-    count: usize,
-    p: u32,
-    a: u32,
-    n: u32,
+    g: usize,
     types: &[u32],
     starts: &[u32],
     h: usize,
+    head: Head,
+    n: u32,
 ) -> Made
-    requires { ⌜ (count ≤ most-entries) × (h ≤ most-places) ⌝ }
+    requires { ⌜ (g ≤ most-entries) × (h ≤ most-places) ⌝ }
     ensures { λ r. ⌜ made (r .ok) (r .takes) (r .ty) (r .start) (r .begins) (r .kind) (r .a) (r .b) ≡
-        droppedNode (now (text .entry)) (globalsIn (now (text .entry)) (now (tree .entry)) (now (globals .entry)) count) p a n (operandsIn (now (types .entry)) (now (starts .entry)) h) ⌝ }
+        droppedNode (now (text .entry)) (globalsIn (now (text .entry)) (now (tree .entry)) (now (globals .entry)) g) (head .at) (head .size) n (operandsIn (now (types .entry)) (now (starts .entry)) h) ⌝ }
 {
-    let i = find_global(text, tree, globals, count, p, a);
-    if i == 0 {
+    let f = find_function(text, tree, globals, g, head.at, head.size);
+    if !f.ok {
         return broken();
     }
-    let at = GLOBAL_WORDS * (i - 1);
-    let header = word(globals, at) as usize;
-    let kind = word(tree, header);
-    if kind == ARRAY {
-        return broken();
-    }
-    let number = word(globals, at + GLOBAL_VALUE);
-    arguments(tree, types, starts, h, header, number, n, 0, 0, INT)
+    arguments(tree, types, starts, h, f, n, 0, 0, INT)
 }

@@ -71,3 +71,22 @@ pub fn header(
     core[q + 6] = t;
     core[q + 7] = rest;
 }
+
+// The header of a statement with one expression and no block.
+pub fn header_of_one(core: &mut [u32], q: usize, k: u32, a: u32, head: Head)
+    requires { ⌜ q + 8 ≤ length (now core) ⌝ }
+    ensures { λ _. ⌜ now (core .exit) ≡ sets (now (core .entry)) q (k ∷ a ∷ 0 ∷ head .first ∷ 0 ∷ 0 ∷ 0 ∷ head .rest ∷ []) ⌝ }
+{
+    let n = head.first;
+    header(core, q, k, a, 0, n, 0, 0, 0, head.rest);
+}
+
+// The header of a statement with two.
+pub fn header_of_two(core: &mut [u32], q: usize, k: u32, a: u32, b: u32, head: Head)
+    requires { ⌜ q + 8 ≤ length (now core) ⌝ }
+    ensures { λ _. ⌜ now (core .exit) ≡ sets (now (core .entry)) q (k ∷ a ∷ b ∷ head .first ∷ head .second ∷ 0 ∷ 0 ∷ head .rest ∷ []) ⌝ }
+{
+    let n = head.first;
+    let m = head.second;
+    header(core, q, k, a, b, n, m, 0, 0, head.rest);
+}

@@ -14,6 +14,17 @@ pub mod simple; // statements with no block
 pub mod blocks; // blocks, and statements that have some
 pub mod endings; // whether a block ends in return
 
+// Where an expression, a statement or a block is read: the words of the tree and of the core from which it stands on; and document 01's scope there:
+// how many globals and how many visible locals the tables have, how many parameters and lets there were, and the function's result type.
+pub struct Spot {
+    pub tree: usize,
+    pub core: usize,
+    pub globals: usize,
+    pub visible: usize,
+    pub count: u32,
+    pub result: u32,
+}
+
 // What a part of the tree gives: a number, or the place of a broken rule.
 pub enum Out {
     Done(usize),

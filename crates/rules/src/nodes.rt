@@ -3,7 +3,7 @@ ghost use mathlib.Core.Path.{_≡_};
 ghost use Prim.Native.Nat.{ℕ, _≤_};
 ghost use Rattle.rules.specs.Tables.{typeOf, localsIn, globalsIn};
 ghost use Rattle.rules.specs.Scan.{leaf as leafOf, nameNode, elementNode, unaryNode, strictNode, markNode, joinNode};
-ghost use Rattle.rules.specs.Post.{made, most-entries};
+ghost use Rattle.rules.specs.Post.{made, Reads, most-entries, most-places};
 ghost use mathlib.Core.Option.{some, none};
 ghost use lib.Dec.{eqb, ltb};
 ghost use Rattle.word.specs.Choice.{pick};
@@ -32,6 +32,33 @@ pub const ARRAY: u32 = 0;
 const TYPED: u32 = 2;
 
 const TESTS: u32 = 6;
+
+// An item of the tree: its kind, its place, two words that the kind has a use for, and where the core's item goes, counted from the expression's first.
+pub struct TreeItem {
+    pub kind: u32,
+    pub place: u32,
+    pub a: u32,
+    pub b: u32,
+    pub here: u32,
+}
+
+// The item at p.
+pub fn item_at(tree: &[u32], p: usize, here: u32) -> TreeItem
+    requires { ⌜ p ≤ most-places ⌝ }
+    ensures { λ r. ⌜ Reads (now (tree .entry)) p (r .kind) (r .place) (r .a) (r .b) × (r .here ≡ here) ⌝ }
+{
+    let kind = word(tree, p);
+    let place = word(tree, p + 1);
+    let a = word(tree, p + 2);
+    let b = word(tree, p + 3);
+    TreeItem {
+        kind,
+        place,
+        a,
+        b,
+        here,
+    }
+}
 
 // If the rules are kept: how many operands it takes, the type and start of the one that it gives, how many nodes begin there, and its item.
 pub struct Made {

@@ -6,18 +6,21 @@ ghost use lib.ListN.{length, drop};
 ghost use Rattle.language.specs.Tree.{emit as emitOf, give as giveOf, assign as assignOf, declare as declareOf};
 ghost use Rattle.rules.specs.Tables.{part, typeOf, resultOf, localsIn, globalsIn};
 ghost use Rattle.rules.specs.Post.{most-entries, HeaderRoom, States, Leaves, Enters, Freshly};
-ghost use Rattle.rules.specs.Statements.{Moves};
+ghost use Rattle.rules.specs.Statements.{Moves, declaredType};
 use crate::Given;
+use crate::Spot;
 use crate::Step;
-use crate::expression::expression;
+use crate::expression::first_expression;
 use crate::head::Head;
 use crate::head::header;
+use crate::head::header_of_one;
 use crate::names::LOCAL_SLOT;
 use crate::names::LOCAL_TYPE;
 use crate::names::LOCAL_WORDS;
 use crate::names::find_global;
 use crate::names::find_local;
 use crate::names::word;
+use crate::types::BOOL;
 use crate::types::INT;
 use crate::types::same_type;
 use flat::statement;
@@ -30,55 +33,26 @@ pub fn emit(
     text: &[u8],
     tree: &[u32],
     globals: &[u32],
-    g: usize,
     locals: &[u32],
-    l: usize,
     types: &mut [u32],
     starts: &mut [u32],
     core: &mut [u32],
-    p: usize,
-    q: usize,
+    spot: Spot,
     head: Head,
-    count: u32,
-    result: u32,
 ) -> Step
-    requires { ⌜ HeaderRoom (now tree) g l (now types) (now starts) (now core) p q ⌝ }
-    ensures { λ r. ⌜ States (now (text .entry)) (globalsIn (now (text .entry)) (now (tree .entry)) (now (globals .entry)) g) (now (locals .entry)) l count (resultOf result)
-        (λ e. emitOf (head .at) e) (head .first) (head .rest) (drop (p + 8) (now (tree .entry))) q (now (core .entry)) r (now (locals .exit)) (now (core .exit)) ⌝ }
-    ensures { λ r. ⌜ Moves l count (now (locals .entry)) r (now (locals .exit)) ⌝ }
+    requires { ⌜ HeaderRoom (now tree) (spot .globals) (spot .visible) (now types) (now starts) (now core) (spot .tree) (spot .core) ⌝ }
+    ensures { λ r. ⌜ States (now (text .entry)) (globalsIn (now (text .entry)) (now (tree .entry)) (now (globals .entry)) (spot .globals)) (now (locals .entry)) (spot .visible) (spot .count) (resultOf (spot .result))
+        (λ e. emitOf (head .at) e) (head .first) (head .rest) (drop (spot .tree + 8) (now (tree .entry))) (spot .core) (now (core .entry)) r (now (locals .exit)) (now (core .exit)) ⌝ }
+    ensures { λ r. ⌜ Moves (spot .visible) (spot .count) (now (locals .entry)) r (now (locals .exit)) ⌝ }
 {
-    let r = expression(
-        text,
-        tree,
-        globals,
-        g,
-        locals,
-        l,
-        types,
-        starts,
-        core,
-        p + 8,
-        q + 8,
-        head.first,
-    );
+    let r = first_expression(text, tree, globals, locals, types, starts, core, spot, head);
     match r {
         Given::Type(ty) => {
             if !same_type(INT, ty) {
                 return Step::Broken(head.at);
             }
-            header(
-                core,
-                q,
-                statement::EMIT,
-                0,
-                0,
-                head.first,
-                0,
-                0,
-                0,
-                head.rest,
-            );
-            Step::Next(l, count)
+            header_of_one(core, spot.core, statement::EMIT, 0, head);
+            Step::Next(spot.visible, spot.count)
         }
         Given::Broken(b) => Step::Broken(b),
     }
@@ -89,58 +63,29 @@ pub fn give(
     text: &[u8],
     tree: &[u32],
     globals: &[u32],
-    g: usize,
     locals: &[u32],
-    l: usize,
     types: &mut [u32],
     starts: &mut [u32],
     core: &mut [u32],
-    p: usize,
-    q: usize,
+    spot: Spot,
     head: Head,
-    count: u32,
-    result: u32,
 ) -> Step
-    requires { ⌜ HeaderRoom (now tree) g l (now types) (now starts) (now core) p q ⌝ }
-    ensures { λ r. ⌜ States (now (text .entry)) (globalsIn (now (text .entry)) (now (tree .entry)) (now (globals .entry)) g) (now (locals .entry)) l count (resultOf result)
-        (λ e. giveOf (head .at) e) (head .first) (head .rest) (drop (p + 8) (now (tree .entry))) q (now (core .entry)) r (now (locals .exit)) (now (core .exit)) ⌝ }
-    ensures { λ r. ⌜ Moves l count (now (locals .entry)) r (now (locals .exit)) ⌝ }
+    requires { ⌜ HeaderRoom (now tree) (spot .globals) (spot .visible) (now types) (now starts) (now core) (spot .tree) (spot .core) ⌝ }
+    ensures { λ r. ⌜ States (now (text .entry)) (globalsIn (now (text .entry)) (now (tree .entry)) (now (globals .entry)) (spot .globals)) (now (locals .entry)) (spot .visible) (spot .count) (resultOf (spot .result))
+        (λ e. giveOf (head .at) e) (head .first) (head .rest) (drop (spot .tree + 8) (now (tree .entry))) (spot .core) (now (core .entry)) r (now (locals .exit)) (now (core .exit)) ⌝ }
+    ensures { λ r. ⌜ Moves (spot .visible) (spot .count) (now (locals .entry)) r (now (locals .exit)) ⌝ }
 {
-    let r = expression(
-        text,
-        tree,
-        globals,
-        g,
-        locals,
-        l,
-        types,
-        starts,
-        core,
-        p + 8,
-        q + 8,
-        head.first,
-    );
+    let r = first_expression(text, tree, globals, locals, types, starts, core, spot, head);
     match r {
         Given::Type(ty) => {
-            if result == 0 {
+            if spot.result == 0 {
                 return Step::Broken(head.at);
             }
-            if !same_type(result, ty) {
+            if !same_type(spot.result, ty) {
                 return Step::Broken(head.at);
             }
-            header(
-                core,
-                q,
-                statement::GIVE,
-                0,
-                0,
-                head.first,
-                0,
-                0,
-                0,
-                head.rest,
-            );
-            Step::Next(l, count)
+            header_of_one(core, spot.core, statement::GIVE, 0, head);
+            Step::Next(spot.visible, spot.count)
         }
         Given::Broken(b) => Step::Broken(b),
     }
@@ -151,40 +96,22 @@ pub fn assign(
     text: &[u8],
     tree: &[u32],
     globals: &[u32],
-    g: usize,
     locals: &[u32],
-    l: usize,
     types: &mut [u32],
     starts: &mut [u32],
     core: &mut [u32],
-    p: usize,
-    q: usize,
+    spot: Spot,
     head: Head,
-    count: u32,
-    result: u32,
 ) -> Step
-    requires { ⌜ HeaderRoom (now tree) g l (now types) (now starts) (now core) p q ⌝ }
-    ensures { λ r. ⌜ States (now (text .entry)) (globalsIn (now (text .entry)) (now (tree .entry)) (now (globals .entry)) g) (now (locals .entry)) l count (resultOf result)
-        (λ e. assignOf (head .at) (part (now (text .entry)) (head .at) (head .size)) e) (head .first) (head .rest) (drop (p + 8) (now (tree .entry))) q (now (core .entry)) r (now (locals .exit)) (now (core .exit)) ⌝ }
-    ensures { λ r. ⌜ Moves l count (now (locals .entry)) r (now (locals .exit)) ⌝ }
+    requires { ⌜ HeaderRoom (now tree) (spot .globals) (spot .visible) (now types) (now starts) (now core) (spot .tree) (spot .core) ⌝ }
+    ensures { λ r. ⌜ States (now (text .entry)) (globalsIn (now (text .entry)) (now (tree .entry)) (now (globals .entry)) (spot .globals)) (now (locals .entry)) (spot .visible) (spot .count) (resultOf (spot .result))
+        (λ e. assignOf (head .at) (part (now (text .entry)) (head .at) (head .size)) e) (head .first) (head .rest) (drop (spot .tree + 8) (now (tree .entry))) (spot .core) (now (core .entry)) r (now (locals .exit)) (now (core .exit)) ⌝ }
+    ensures { λ r. ⌜ Moves (spot .visible) (spot .count) (now (locals .entry)) r (now (locals .exit)) ⌝ }
 {
-    let r = expression(
-        text,
-        tree,
-        globals,
-        g,
-        locals,
-        l,
-        types,
-        starts,
-        core,
-        p + 8,
-        q + 8,
-        head.first,
-    );
+    let r = first_expression(text, tree, globals, locals, types, starts, core, spot, head);
     match r {
         Given::Type(ty) => {
-            let i = find_local(text, locals, l, head.at, head.size);
+            let i = find_local(text, locals, spot.visible, head.at, head.size);
             if i == 0 {
                 return Step::Broken(head.at);
             }
@@ -193,35 +120,24 @@ pub fn assign(
                 return Step::Broken(head.at);
             }
             let slot = word(locals, LOCAL_WORDS * (i - 1) + LOCAL_SLOT);
-            header(
-                core,
-                q,
-                statement::PUT,
-                slot,
-                0,
-                head.first,
-                0,
-                0,
-                0,
-                head.rest,
-            );
-            Step::Next(l, count)
+            header_of_one(core, spot.core, statement::PUT, slot, head);
+            Step::Next(spot.visible, spot.count)
         }
         Given::Broken(b) => Step::Broken(b),
     }
 }
 
 // "Others only use `return;`."
-pub fn leave(core: &mut [u32], q: usize, at: u32, l: usize, count: u32, result: u32) -> Step
-    requires { ⌜ q + 8 ≤ length (now core) ⌝ }
-    ensures { λ r. ⌜ Leaves l count (resultOf result) at q (now (core .entry)) r (now (core .exit)) ⌝ }
-    ensures { λ r. ⌜ ((locals : List ℕ) → Moves l count locals r locals) ⌝ }
+pub fn leave(core: &mut [u32], spot: Spot, head: Head) -> Step
+    requires { ⌜ spot .core + 8 ≤ length (now core) ⌝ }
+    ensures { λ r. ⌜ Leaves (spot .visible) (spot .count) (resultOf (spot .result)) (head .at) (spot .core) (now (core .entry)) r (now (core .exit)) ⌝ }
+    ensures { λ r. ⌜ ((locals : List ℕ) → Moves (spot .visible) (spot .count) locals r locals) ⌝ }
 {
-    if result != 0 {
-        return Step::Broken(at);
+    if spot.result != 0 {
+        return Step::Broken(head.at);
     }
-    header(core, q, statement::LEAVE, 0, 0, 0, 0, 0, 0, 0);
-    Step::Next(l, count)
+    header(core, spot.core, statement::LEAVE, 0, 0, 0, 0, 0, 0, 0);
+    Step::Next(spot.visible, spot.count)
 }
 
 // A local more: its name's place and length, its type, its slot.
@@ -258,68 +174,54 @@ pub fn fresh(
     j == 0
 }
 
+// The tree's kinds of a declaration.
+pub const DECLARE_INT: u32 = 9;
+
+pub const DECLARE_BOOL: u32 = 10;
+
+// The type that a declaration of this kind declares.
+fn declared_type(kind: u32) -> u32
+    ensures { λ r. ⌜ typeOf r ≡ declaredType kind ⌝ }
+{
+    if kind == DECLARE_BOOL { BOOL } else { INT }
+}
+
 // A local is declared: it is visible from the end of its `let`.
 pub fn declare(
     text: &[u8],
     tree: &[u32],
     globals: &[u32],
-    g: usize,
     locals: &mut [u32],
-    l: usize,
     types: &mut [u32],
     starts: &mut [u32],
     core: &mut [u32],
-    p: usize,
-    q: usize,
+    spot: Spot,
     head: Head,
-    wanted: u32,
-    count: u32,
-    result: u32,
 ) -> Step
-    requires { ⌜ HeaderRoom (now tree) g l (now types) (now starts) (now core) p q × (4 * l + 4 ≤ length (now locals)) ⌝ }
-    ensures { λ r. ⌜ States (now (text .entry)) (globalsIn (now (text .entry)) (now (tree .entry)) (now (globals .entry)) g) (now (locals .entry)) l count (resultOf result)
-        (λ e. declareOf (head .at) (part (now (text .entry)) (head .at) (head .size)) (typeOf wanted) e) (head .first) (head .rest) (drop (p + 8) (now (tree .entry))) q (now (core .entry)) r (now (locals .exit)) (now (core .exit)) ⌝ }
-    ensures { λ r. ⌜ Moves l count (now (locals .entry)) r (now (locals .exit)) ⌝ }
+    requires { ⌜ HeaderRoom (now tree) (spot .globals) (spot .visible) (now types) (now starts) (now core) (spot .tree) (spot .core) × (4 * spot .visible + 4 ≤ length (now locals)) ⌝ }
+    ensures { λ r. ⌜ States (now (text .entry)) (globalsIn (now (text .entry)) (now (tree .entry)) (now (globals .entry)) (spot .globals)) (now (locals .entry)) (spot .visible) (spot .count) (resultOf (spot .result))
+        (λ e. declareOf (head .at) (part (now (text .entry)) (head .at) (head .size)) (declaredType (head .kind)) e) (head .first) (head .rest) (drop (spot .tree + 8) (now (tree .entry))) (spot .core) (now (core .entry)) r (now (locals .exit)) (now (core .exit)) ⌝ }
+    ensures { λ r. ⌜ Moves (spot .visible) (spot .count) (now (locals .entry)) r (now (locals .exit)) ⌝ }
 {
-    let r = expression(
-        text,
-        tree,
-        globals,
-        g,
-        locals,
-        l,
-        types,
-        starts,
-        core,
-        p + 8,
-        q + 8,
-        head.first,
-    );
+    let r = first_expression(text, tree, globals, locals, types, starts, core, spot, head);
     match r {
         Given::Type(ty) => {
+            let wanted = declared_type(head.kind);
+            let g = spot.globals;
+            let l = spot.visible;
+            let slot = spot.count;
             if !same_type(wanted, ty) {
                 return Step::Broken(head.at);
             }
             if !fresh(text, tree, globals, g, locals, l, head.at, head.size) {
                 return Step::Broken(head.at);
             }
-            if MOST_LOCALS <= count {
+            if MOST_LOCALS <= slot {
                 return Step::Broken(head.at);
             }
-            enter(locals, l, head.at, head.size, wanted, count);
-            header(
-                core,
-                q,
-                statement::PUT,
-                count,
-                0,
-                head.first,
-                0,
-                0,
-                0,
-                head.rest,
-            );
-            Step::Next(l + 1, count + 1)
+            enter(locals, l, head.at, head.size, wanted, slot);
+            header_of_one(core, spot.core, statement::PUT, slot, head);
+            Step::Next(l + 1, slot + 1)
         }
         Given::Broken(b) => Step::Broken(b),
     }

@@ -11,6 +11,7 @@ use Rattle.language.specs.Tree.{Item}
 use Rattle.language.specs.Grammar.{Parses}
 use Rattle.language.specs.Core.{Program}
 use Rattle.language.specs.Rules.{elaborate}
+use Rattle.language.specs.Text.{AnswerTo}
 use Rattle.tokens.specs.Kinds.{token-room}
 use Rattle.grammar.specs.Flat.{tree-room}
 use Rattle.grammar.specs.Answers.{Answers, Case, Good, Bad}
@@ -20,8 +21,9 @@ use Rattle.flat.specs.Words.{wordsOf, wordsThen}
 use Rattle.declarations.specs.Post.{ElaborateCase, Elaborates, Kept}
 use Rattle.declarations.specs.declared.Elaborated as D
 use Rattle.declarations.specs.declared.Elaborated.the-variants as E
-use Rattle.toolchain.specs.Checking.{Work, Enough, Lacks, Declined, unreadable, broken, Answered, accepted, core-room}
+use Rattle.toolchain.specs.Checking.{Work, Enough, Lacks, Declined, unreadable, broken, Answered, accepted, declined, core-room}
 use Rattle.toolchain.specs.Accepting.{AcceptCase, Accepts, Made, Elaborated, elementsOf}
+use Rattle.toolchain.specs.declared.check.Answer.{Answer}
 use Rattle.toolchain.specs.declared.accept.Accepting.{Accepting}
 use Rattle.toolchain.specs.declared.accept.Accepting.the-variants.{Program as Words, Refused}
 
@@ -49,6 +51,12 @@ elements-are {core = core} m e = e ∙ elements-at (m .program) (m .more) core (
 
 pub accepted-with : {text core : List ℕ} {n k : ℕ} → Made text n core → k ≡ elementsOf core → Answered text (record { number = 0; place = 0; elements = k })
 accepted-with {text} m e = subst (λ (i : ℕ). Answered text (record { number = 0; place = 0; elements = i })) (sym (elements-are m e)) (accepted (m .accepted))
+
+-- the answer is one that document 01 §1 has for the text
+pub answer-to : {text : List ℕ} {r : Answer} → Answered text r → AnswerTo text (r .number)
+answer-to (accepted a) = AnswerTo.accepted a
+answer-to (declined (unreadable u e)) = AnswerTo.unreadable u
+answer-to (declined (broken b)) = AnswerTo.broken b
 
 -- what `elaborate` says of a tree
 module _ {text tree core core′ : List ℕ} {words : ℕ} {r : D.Elaborated} (h : Elaborates text tree words core r core′) where

@@ -31,7 +31,7 @@ use Rattle.interpreter.specs.Post.{outcomeOf}
 use Rattle.claims.specs.Keeps.{stopFor, Begins, Below, Input, machine, used}
 use Rattle.claims.specs.Keeps as C
 use Rattle.codegen.specs.Image.{image}
-use Rattle.codegen.proofs.Whole.{costs}
+use Rattle.codegen.specs.Costs.{costs}
 use Rattle.elaboration.proofs.Accepted.{accepted}
 use Rattle.toolchain.specs.Emulation.{Buffers, Emulates}
 use Rattle.toolchain.specs.Emulation as E
@@ -177,23 +177,23 @@ module _ (text input : List ℕ) (room : ℕ) (bytes : Below 256 input) (p : Pro
         (r .0, r .1, r .2, λ m. alike fuel (r .0) i m Limit (r .3))
 
     ends-back : (limit : ℕ) (m : Emulating (image p) input room limit) (stop : Status) → (stop ≡ Exit) ⊎ ((t : ℕ) × (stop ≡ Trap t)) → m .ended .status ≡ stop →
-        (fuel : ℕ) × ((i : Interpreting text input room fuel) → EndedAs i stop × Alike stop i m)
+        (fuel : ℕ) × (fuel ≤ costs .C * limit + costs .C0) × ((i : Interpreting text input room fuel) → EndedAs i stop × Alike stop i m)
     ends-back limit m stop h e =
         let r = k .ends-back arrays limit room fine stop h (sym (machined m .status) ∙ e) in
-        (r .0, λ i. (ap stopFor (source i .outcome) ∙ r .1, alike (r .0) limit i m stop (r .2)))
+        (r .0, r .1, λ i. (ap stopFor (source i .outcome) ∙ r .2, alike (r .0) limit i m stop (r .3)))
 
     never-faults : (limit : ℕ) (m : Emulating (image p) input room limit) (n : ℕ) → m .ended .status ≡ Fault n → ⊥
     never-faults limit m n e = k .never-faults arrays limit room fine n (sym (machined m .status) ∙ e)
 
-    source-first : (fuel : ℕ) (i : Interpreting text input room fuel) → (limit : ℕ) × ((m : Emulating (image p) input room limit) → Begins (sourceLog i) (machineLog m))
+    source-first : (fuel : ℕ) (i : Interpreting text input room fuel) → (limit : ℕ) × (limit ≤ costs .K * fuel + costs .K0) × ((m : Emulating (image p) input room limit) → Begins (sourceLog i) (machineLog m))
     source-first fuel i =
         let r = k .same-forever arrays room fine .0 fuel in
-        (r .0, λ m. (r .1 .0, ap (λ (l : List ℕ). l ++ r .1 .0) (source-log i) ∙ (r .1 .1 ∙ sym (machine-log m))))
+        (r .0, r .1, λ m. (r .2 .0, ap (λ (l : List ℕ). l ++ r .2 .0) (source-log i) ∙ (r .2 .1 ∙ sym (machine-log m))))
 
-    machine-first : (limit : ℕ) (m : Emulating (image p) input room limit) → (fuel : ℕ) × ((i : Interpreting text input room fuel) → Begins (machineLog m) (sourceLog i))
+    machine-first : (limit : ℕ) (m : Emulating (image p) input room limit) → (fuel : ℕ) × (fuel ≤ costs .C * limit + costs .C0) × ((i : Interpreting text input room fuel) → Begins (machineLog m) (sourceLog i))
     machine-first limit m =
         let r = k .same-forever arrays room fine .1 limit in
-        (r .0, λ i. (r .1 .0, ap (λ (l : List ℕ). l ++ r .1 .0) (machine-log m) ∙ (r .1 .1 ∙ sym (source-log i))))
+        (r .0, r .1, λ i. (r .2 .0, ap (λ (l : List ℕ). l ++ r .2 .0) (machine-log m) ∙ (r .2 .1 ∙ sym (source-log i))))
 
     all : EndToEnd text (image p) input room
     all = record { ends = ends; goes-on = goes-on; ends-back = ends-back; never-faults = never-faults; same-forever = (source-first, machine-first) }

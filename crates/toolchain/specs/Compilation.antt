@@ -10,7 +10,7 @@ use Rattle.language.specs.Text.{Accepted}
 use Rattle.processor.specs.Image.{longest-code}
 use Rattle.claims.specs.Keeps.{Keeps}
 use Rattle.codegen.specs.Image.{image}
-use Rattle.codegen.proofs.Whole.{costs}
+use Rattle.codegen.specs.Costs.{costs}
 use Rattle.toolchain.specs.Checking.{Work, Enough, Declined}
 use Rattle.toolchain.specs.declared.compile.Compiled.{Compiled}
 use Rattle.toolchain.specs.declared.compile.Compiled.the-variants.{Refused, Image}

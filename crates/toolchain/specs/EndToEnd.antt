@@ -15,7 +15,7 @@ use Rattle.interpreter.specs.declared.Ran as I
 use Rattle.interpreter.specs.declared.Outcome.the-variants.{OutOfFuel}
 use Rattle.interpreter.specs.Post.{outcomeOf}
 use Rattle.claims.specs.Keeps.{stopFor, Begins}
-use Rattle.codegen.proofs.Whole.{costs}
+use Rattle.codegen.specs.Costs.{costs}
 use Rattle.toolchain.specs.Emulation.{Buffers, Emulates}
 use Rattle.toolchain.specs.Checking.{Work}
 use Rattle.toolchain.specs.Compilation.{Compiles}
@@ -87,12 +87,14 @@ pub record EndToEnd (text image input : List ℕ) (room : ℕ) : Type 0 where
   pub goes-on : (fuel : ℕ) (i : Interpreting text input room fuel) → i .ran .outcome ≡ OutOfFuel →
       (limit : ℕ) × (fuel ≤ costs .C * limit + costs .C0) × (limit ≤ costs .K * fuel + costs .K0) ×
       ((m : Emulating image input room limit) → Alike Limit i m)
-  -- where `emulate` exits or traps with t, `interpret` finishes or traps with t, with some fuel
+  -- where `emulate` exits or traps with t, `interpret` finishes or traps with t, with some fuel that the limit bounds
   pub ends-back : (limit : ℕ) (m : Emulating image input room limit) (stop : Status) → (stop ≡ Exit) ⊎ ((t : ℕ) × (stop ≡ Trap t)) → m .ended .status ≡ stop →
-      (fuel : ℕ) × ((i : Interpreting text input room fuel) → EndedAs i stop × Alike stop i m)
+      (fuel : ℕ) × (fuel ≤ costs .C * limit + costs .C0) × ((i : Interpreting text input room fuel) → EndedAs i stop × Alike stop i m)
   -- `emulate` never says fault
   pub never-faults : (limit : ℕ) (m : Emulating image input room limit) (n : ℕ) → m .ended .status ≡ Fault n → ⊥
-  -- each one's log is the beginning of the other's, with enough fuel or under a large enough limit
+  -- each one's log is the beginning of the other's, with a fuel or under a limit that the other bounds
   pub same-forever :
-      ((fuel : ℕ) (i : Interpreting text input room fuel) → (limit : ℕ) × ((m : Emulating image input room limit) → Begins (sourceLog i) (machineLog m))) ×
-      ((limit : ℕ) (m : Emulating image input room limit) → (fuel : ℕ) × ((i : Interpreting text input room fuel) → Begins (machineLog m) (sourceLog i)))
+      ((fuel : ℕ) (i : Interpreting text input room fuel) →
+      (limit : ℕ) × (limit ≤ costs .K * fuel + costs .K0) × ((m : Emulating image input room limit) → Begins (sourceLog i) (machineLog m))) ×
+      ((limit : ℕ) (m : Emulating image input room limit) →
+      (fuel : ℕ) × (fuel ≤ costs .C * limit + costs .C0) × ((i : Interpreting text input room fuel) → Begins (machineLog m) (sourceLog i)))

@@ -5,7 +5,7 @@ use Prim.Native.Nat.{_-_}
 use lib.ListN.{length}
 use Rattle.rules.specs.Tables.{globalsIn}
 use Rattle.declarations.proofs.Filling as L
-use Rattle.declarations.proofs.Rooms.{rooms-on, spot-at}
+use Rattle.declarations.proofs.Rooms.{rooms-on, placed-at}
 use Rattle.declarations.proofs.Standing.{further}
 use Rattle.declarations.proofs.functions.functions.Statement.{statement}
 use Rattle.declarations.proofs.functions.functions.Tie as tie
@@ -33,7 +33,7 @@ loop-holds : tie.Need-loop-holds Inv-loop μ-loop
 loop-holds c = (L.filling-start _ _ _ _ _ _, refl, refl, refl, refl)
 
 item-requires : tie.Need-item-requires Inv-loop μ-loop
-item-requires c κs = (rooms-on (c .before .before .before .before .before .before .before .before .before .before .before .before .before .pre .0) (c .before .before .before .before .before .loop .inv .1) (c .before .before .before .before .before .loop .inv .2) (c .before .before .before .before .before .loop .inv .3) (c .before .before .before .before .before .loop .inv .4), spot-at _ _ (c .before .before .before .before .loop-test .taken) (c .before .before .before .before .before .before .before .before .before .before .before .before .before .pre .1) (c .before .before .before .before .before .before .before .before .before .before .before .before .before .pre .2) (c .before .before .before .before .before .loop .inv .0 .place) (c .before .before .before .before .before .loop .inv .0 .entry-at))
+item-requires c κs = (rooms-on (c .before .before .before .before .before .before .before .before .before .before .before .before .before .pre .0) (c .before .before .before .before .before .loop .inv .1) (c .before .before .before .before .before .loop .inv .2) (c .before .before .before .before .before .loop .inv .3) (c .before .before .before .before .before .loop .inv .4), placed-at _ _ (c .before .before .before .before .loop-test .taken) (c .before .before .before .before .before .before .before .before .before .before .before .before .before .pre .1) (c .before .before .before .before .before .before .before .before .before .before .before .before .before .pre .2) (c .before .before .before .before .before .loop .inv .0 .place) (c .before .before .before .before .before .loop .inv .0 .entry-at))
 
 enum-known-r : tie.Need-enum-known-r Inv-loop μ-loop
 enum-known-r c = search needs

@@ -5,8 +5,8 @@ use Rattle.rules.proofs.blocks.condition.Statement.{statement}
 use Rattle.rules.proofs.blocks.condition.Tie as tie
 use borrow.Author.Needs.{needs}
 
-expression-requires : tie.Need-expression-requires
-expression-requires c κs = c .before .before .before .before .before .before .before .before .before .before .pre
+first-expression-requires : tie.Need-first-expression-requires
+first-expression-requires c κs = c .before .before .before .before .before .before .before .before .before .before .pre
 
 enum-known-r : tie.Need-enum-known-r
 enum-known-r c = search needs
@@ -24,7 +24,7 @@ same-length-3 : tie.Need-same-length-3
 same-length-3 c = search needs
 
 returns : tie.Need-returns
-returns c = L.cond-wrong _ (c .before .before .before .before .before .before .before .before .before .before .before .expression .ensures) (c .before .before .before .r .given .1) (c .before .same-type .ensures) (denied _ (c .if1 .taken))
+returns c = L.cond-wrong _ (c .before .before .before .before .before .before .before .before .before .before .before .first-expression .ensures) (c .before .before .before .r .given .1) (c .before .same-type .ensures) (denied _ (c .if1 .taken))
 
 enum-known-r-2 : tie.Need-enum-known-r-2
 enum-known-r-2 c = search needs
@@ -39,7 +39,7 @@ same-length-6 : tie.Need-same-length-6
 same-length-6 c = search needs
 
 returns-2 : tie.Need-returns-2
-returns-2 c = L.cond-fine _ (c .before .before .before .before .before .before .before .before .before .before .before .expression .ensures) (c .before .before .before .r .given .1) (c .before .same-type .ensures) (granted _ (c .if1 .left))
+returns-2 c = L.cond-fine _ (c .before .before .before .before .before .before .before .before .before .before .before .first-expression .ensures) (c .before .before .before .r .given .1) (c .before .same-type .ensures) (granted _ (c .if1 .left))
 
 same-length-7 : tie.Need-same-length-7
 same-length-7 c = search needs
@@ -51,7 +51,7 @@ same-length-9 : tie.Need-same-length-9
 same-length-9 c = search needs
 
 returns-3 : tie.Need-returns-3
-returns-3 c = L.cond-fault _ (c .before .before .before .before .before .before .before .before .before .expression .ensures) (c .before .r2 .given .1)
+returns-3 c = L.cond-fault _ (c .before .before .before .before .before .before .before .before .before .first-expression .ensures) (c .before .r2 .given .1)
 
 pub condition-spec : {M : Type 1} → statement M
-condition-spec = tie.close (tie.spec expression-requires enum-known-r same-type-requires same-length same-length-2 same-length-3 returns enum-known-r-2 same-length-4 same-length-5 same-length-6 returns-2 same-length-7 same-length-8 same-length-9 returns-3)
+condition-spec = tie.close (tie.spec first-expression-requires enum-known-r same-type-requires same-length same-length-2 same-length-3 returns enum-known-r-2 same-length-4 same-length-5 same-length-6 returns-2 same-length-7 same-length-8 same-length-9 returns-3)

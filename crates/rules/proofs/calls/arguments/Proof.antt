@@ -14,6 +14,9 @@ broken-requires c κs = search needs
 returns : tie.Need-returns
 returns c = c .broken .ensures ∙ L.few-operands _ _ _ _ _ _ _ _ _ _ (c .before .if1 .taken)
 
+cast-header : tie.Need-cast-header
+cast-header c = search needs
+
 add-word : tie.Need-add-word
 add-word c = search needs
 
@@ -24,7 +27,7 @@ broken-requires-2 : tie.Need-broken-requires-2
 broken-requires-2 c κs = search needs
 
 returns-2 : tie.Need-returns-2
-returns-2 c = c .broken2 .ensures ∙ L.other-count _ _ _ _ _ _ _ _ _ _ (c .before .before .before .if1 .left) (c .before .before .word .ensures) (c .before .if2 .taken)
+returns-2 c = c .broken2 .ensures ∙ L.other-count _ _ _ _ _ _ _ _ _ _ (c .before .before .before .before .if1 .left) (c .before .before .word .ensures) (c .before .if2 .taken)
 
 sub-same-types : tie.Need-sub-same-types
 sub-same-types c = search needs
@@ -39,14 +42,14 @@ broken-requires-3 : tie.Need-broken-requires-3
 broken-requires-3 c κs = search needs
 
 returns-3 : tie.Need-returns-3
-returns-3 c = c .broken3 .ensures ∙ L.other-types _ _ _ _ _ _ _ _ _ _ (c .before .before .before .before .before .if1 .left) (c .before .before .before .before .word .ensures) (c .before .before .before .if2 .left) (c .before .before .same-types .ensures) (denied _ (c .before .if3 .taken))
+returns-3 c = c .broken3 .ensures ∙ L.other-types _ _ _ _ _ _ _ _ _ _ (c .before .before .before .before .before .before .if1 .left) (c .before .before .before .before .word .ensures) (c .before .before .before .if2 .left) (c .before .before .same-types .ensures) (denied _ (c .before .if3 .taken))
 
 first-start-requires : tie.Need-first-start-requires
 first-start-requires c κs = search needs
 
 returns-4 : tie.Need-returns-4
 unfolding made
-returns-4 c = L.call-fine _ _ _ _ _ _ _ _ _ _ (c .before .before .before .before .before .if1 .left) (c .before .before .before .before .word .ensures) (c .before .before .before .if2 .left) (c .before .before .same-types .ensures) (c .first-start .ensures) (granted _ (c .before .if3 .left))
+returns-4 c = L.call-fine _ _ _ _ _ _ _ _ _ _ (c .before .before .before .before .before .before .if1 .left) (c .before .before .before .before .word .ensures) (c .before .before .before .if2 .left) (c .before .before .same-types .ensures) (c .first-start .ensures) (granted _ (c .before .if3 .left))
 
 pub arguments-spec : {M : Type 1} → statement M
-arguments-spec = tie.close (tie.spec broken-requires returns add-word word-requires broken-requires-2 returns-2 sub-same-types add-same-types same-types-requires broken-requires-3 returns-3 first-start-requires returns-4)
+arguments-spec = tie.close (tie.spec broken-requires returns cast-header add-word word-requires broken-requires-2 returns-2 sub-same-types add-same-types same-types-requires broken-requires-3 returns-3 first-start-requires returns-4)

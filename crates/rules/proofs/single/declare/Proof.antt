@@ -7,17 +7,14 @@ use Rattle.rules.proofs.single.declare.Statement.{statement}
 use Rattle.rules.proofs.single.declare.Tie as tie
 use borrow.Author.Needs.{needs}
 
-add-expression : tie.Need-add-expression
-add-expression c = omega (arith, c .before .before .before .before .before .before .before .before .before .before .before .pre .0 .after .place)
-
-add-expression-2 : tie.Need-add-expression-2
-add-expression-2 c = omega (arith, c .before .before .before .before .before .before .before .before .before .before .before .pre .0 .after .core-place)
-
-expression-requires : tie.Need-expression-requires
-expression-requires c κs = c .before .before .before .before .before .before .before .before .before .before .before .pre .0 .after
+first-expression-requires : tie.Need-first-expression-requires
+first-expression-requires c κs = c .before .before .before .before .before .before .before .before .before .before .before .pre .0 .after
 
 enum-known-r : tie.Need-enum-known-r
 enum-known-r c = search needs
+
+declared-type-requires : tie.Need-declared-type-requires
+declared-type-requires c κs = search needs
 
 same-type-requires : tie.Need-same-type-requires
 same-type-requires c κs = search needs
@@ -35,10 +32,10 @@ same-length-4 : tie.Need-same-length-4
 same-length-4 c = search needs
 
 returns : tie.Need-returns
-returns c = (L.declare-wrong _ _ _ _ _ _ _ _ _ _ _ (c .before .before .before .before .before .before .before .before .before .before .before .expression .ensures) (c .before .before .before .r .given .1) (c .before .same-type .ensures) (denied _ (c .if1 .taken)), M.stuck _ _ _ _)
+returns c = (L.declare-wrong _ _ _ _ _ _ _ _ _ _ _ (c .before .before .before .before .before .before .before .before .before .before .before .before .first-expression .ensures) _ (c .before .before .before .before .r .given .1) (c .before .before .declared-type .ensures) (c .before .same-type .ensures) (denied _ (c .if1 .taken)), M.stuck _ _ _ _)
 
 fresh-requires : tie.Need-fresh-requires
-fresh-requires c κs = (c .before .before .before .before .before .before .before .before .before .before .before .before .before .before .before .before .before .before .before .before .before .before .before .before .pre .0 .after .globals, c .before .before .before .before .before .before .before .before .before .before .before .before .before .before .before .before .before .before .before .before .before .before .before .before .pre .0 .after .locals)
+fresh-requires c κs = (c .before .before .before .before .before .before .before .before .before .before .before .before .before .before .before .before .before .before .before .before .before .before .before .before .before .pre .0 .after .globals, c .before .before .before .before .before .before .before .before .before .before .before .before .before .before .before .before .before .before .before .before .before .before .before .before .before .pre .0 .after .locals)
 
 same-length-5 : tie.Need-same-length-5
 same-length-5 c = search needs
@@ -53,7 +50,7 @@ same-length-8 : tie.Need-same-length-8
 same-length-8 c = search needs
 
 returns-2 : tie.Need-returns-2
-returns-2 c = (L.declare-again _ _ _ _ _ _ _ _ _ _ _ (c .before .before .before .before .before .before .before .before .before .before .before .before .before .before .expression .ensures) (c .before .before .before .before .before .before .r .given .1) (c .before .before .before .before .same-type .ensures) (granted _ (c .before .before .before .if1 .left)) (c .before .fresh .ensures) (denied _ (c .if2 .taken)), M.stuck _ _ _ _)
+returns-2 c = (L.declare-again _ _ _ _ _ _ _ _ _ _ _ (c .before .before .before .before .before .before .before .before .before .before .before .before .before .before .before .first-expression .ensures) _ (c .before .before .before .before .before .before .before .r .given .1) (c .before .before .before .before .before .declared-type .ensures) (c .before .before .before .before .same-type .ensures) (granted _ (c .before .before .before .if1 .left)) (c .before .fresh .ensures) (denied _ (c .if2 .taken)), M.stuck _ _ _ _)
 
 same-length-9 : tie.Need-same-length-9
 same-length-9 c = search needs
@@ -68,19 +65,19 @@ same-length-12 : tie.Need-same-length-12
 same-length-12 c = search needs
 
 returns-3 : tie.Need-returns-3
-returns-3 c = (L.declare-many _ _ _ _ _ _ _ _ _ _ _ (c .before .before .before .before .before .before .before .before .before .before .before .before .before .before .before .expression .ensures) (c .before .before .before .before .before .before .before .r .given .1) (c .before .before .before .before .before .same-type .ensures) (granted _ (c .before .before .before .before .if1 .left)) (c .before .before .fresh .ensures) (granted _ (c .before .if2 .left)) (c .if3 .taken), M.stuck _ _ _ _)
+returns-3 c = (L.declare-many _ _ _ _ _ _ _ _ _ _ _ (c .before .before .before .before .before .before .before .before .before .before .before .before .before .before .before .before .first-expression .ensures) _ (c .before .before .before .before .before .before .before .before .r .given .1) (c .before .before .before .before .before .before .declared-type .ensures) (c .before .before .before .before .before .same-type .ensures) (granted _ (c .before .before .before .before .if1 .left)) (c .before .before .fresh .ensures) (granted _ (c .before .if2 .left)) (c .if3 .taken), M.stuck _ _ _ _)
 
 enter-requires : tie.Need-enter-requires
-enter-requires c κs = (c .before .before .before .before .before .before .before .before .before .before .before .before .before .before .before .before .before .before .before .before .before .before .before .before .before .before .before .before .pre .0 .after .locals, c .before .before .before .before .before .before .before .before .before .before .before .before .before .before .before .before .before .before .before .before .before .before .before .before .before .before .before .before .pre .1)
+enter-requires c κs = (c .before .before .before .before .before .before .before .before .before .before .before .before .before .before .before .before .before .before .before .before .before .before .before .before .before .before .before .before .before .pre .0 .after .locals, c .before .before .before .before .before .before .before .before .before .before .before .before .before .before .before .before .before .before .before .before .before .before .before .before .before .before .before .before .before .pre .1)
 
-header-requires : tie.Need-header-requires
-header-requires c κs = omega (arith, c .before .before .before .before .before .before .before .before .before .before .before .before .before .before .before .before .before .before .before .before .before .before .before .before .before .before .before .before .before .before .before .before .pre .0 .header, c .before .before .before .before .before .before .before .before .before .before .before .before .before .before .before .before .before .before .before .before .expression .kept .1 .1 .1 .1 .1 .1 .1 .1 .0)
+header-of-one-requires : tie.Need-header-of-one-requires
+header-of-one-requires c κs = omega (arith, c .before .before .before .before .before .before .before .before .before .before .before .before .before .before .before .before .before .before .before .before .before .before .before .before .before .before .before .before .before .before .before .before .before .pre .0 .header, c .before .before .before .before .before .before .before .before .before .before .before .before .before .before .before .before .before .before .before .before .before .first-expression .kept .1 .1 .1 .1 .1 .1 .0)
 
-add-t39 : tie.Need-add-t39
-add-t39 c = omega (arith, c .before .before .before .before .before .before .before .before .before .before .before .before .before .before .before .before .before .before .before .before .before .before .before .before .before .before .before .before .before .before .before .before .before .before .before .pre .0 .after .locals)
+add-t35 : tie.Need-add-t35
+add-t35 c = omega (arith, c .before .before .before .before .before .before .before .before .before .before .before .before .before .before .before .before .before .before .before .before .before .before .before .before .before .before .before .before .before .before .before .before .before .before .before .before .pre .0 .after .locals)
 
-add-t40 : tie.Need-add-t40
-add-t40 c = search needs
+add-t36 : tie.Need-add-t36
+add-t36 c = search needs
 
 enum-known-r-2 : tie.Need-enum-known-r-2
 enum-known-r-2 c = search needs
@@ -98,7 +95,7 @@ same-length-16 : tie.Need-same-length-16
 same-length-16 c = search needs
 
 returns-4 : tie.Need-returns-4
-returns-4 c = (L.declare-next _ _ _ _ _ _ _ _ _ _ _ (c .before .before .before .before .before .before .before .before .before .before .before .before .before .before .before .before .before .before .before .before .before .before .before .expression .ensures) (c .before .before .before .before .before .before .before .before .before .before .before .before .before .before .before .r .given .1) (c .before .before .before .before .before .before .before .before .before .before .before .before .before .same-type .ensures) (granted _ (c .before .before .before .before .before .before .before .before .before .before .before .before .if1 .left)) (c .before .before .before .before .before .before .before .before .before .before .fresh .ensures) (granted _ (c .before .before .before .before .before .before .before .before .before .if2 .left)) (c .before .before .before .before .before .before .before .before .if3 .left) (c .before .before .before .before .before .before .enter .ensures) (c .before .before .header .ensures), M.one-more _ _ (c .before .before .before .before .before .before .before .before .if3 .left) (c .before .before .before .before .before .before .enter .ensures))
+returns-4 c = (L.declare-next _ _ _ _ _ _ _ _ _ _ _ (c .before .before .before .before .before .before .before .before .before .before .before .before .before .before .before .before .before .before .before .before .before .before .before .before .first-expression .ensures) _ (c .before .before .before .before .before .before .before .before .before .before .before .before .before .before .before .before .r .given .1) (c .before .before .before .before .before .before .before .before .before .before .before .before .before .before .declared-type .ensures) (c .before .before .before .before .before .before .before .before .before .before .before .before .before .same-type .ensures) (granted _ (c .before .before .before .before .before .before .before .before .before .before .before .before .if1 .left)) (c .before .before .before .before .before .before .before .before .before .before .fresh .ensures) (granted _ (c .before .before .before .before .before .before .before .before .before .if2 .left)) (c .before .before .before .before .before .before .before .before .if3 .left) (c .before .before .before .before .before .before .enter .ensures) (c .before .before .header-of-one .ensures), M.one-more _ _ (c .before .before .before .before .before .before .before .before .if3 .left) (c .before .before .before .before .before .before .enter .ensures))
 
 same-length-17 : tie.Need-same-length-17
 same-length-17 c = search needs
@@ -113,7 +110,7 @@ same-length-20 : tie.Need-same-length-20
 same-length-20 c = search needs
 
 returns-5 : tie.Need-returns-5
-returns-5 c = (L.declare-fault _ _ _ _ _ _ _ _ _ _ _ (c .before .before .before .before .before .before .before .before .before .expression .ensures) (c .before .r2 .given .1), M.stuck _ _ _ _)
+returns-5 c = (L.declare-fault _ _ _ _ _ _ _ _ _ _ _ (c .before .before .before .before .before .before .before .before .before .first-expression .ensures) (c .before .r2 .given .1), M.stuck _ _ _ _)
 
 pub declare-spec : {M : Type 1} → statement M
-declare-spec = tie.close (tie.spec add-expression add-expression-2 expression-requires enum-known-r same-type-requires same-length same-length-2 same-length-3 same-length-4 returns fresh-requires same-length-5 same-length-6 same-length-7 same-length-8 returns-2 same-length-9 same-length-10 same-length-11 same-length-12 returns-3 enter-requires header-requires add-t39 add-t40 enum-known-r-2 same-length-13 same-length-14 same-length-15 same-length-16 returns-4 same-length-17 same-length-18 same-length-19 same-length-20 returns-5)
+declare-spec = tie.close (tie.spec first-expression-requires enum-known-r declared-type-requires same-type-requires same-length same-length-2 same-length-3 same-length-4 returns fresh-requires same-length-5 same-length-6 same-length-7 same-length-8 returns-2 same-length-9 same-length-10 same-length-11 same-length-12 returns-3 enter-requires header-of-one-requires add-t35 add-t36 enum-known-r-2 same-length-13 same-length-14 same-length-15 same-length-16 returns-4 same-length-17 same-length-18 same-length-19 same-length-20 returns-5)

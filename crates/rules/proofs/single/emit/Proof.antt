@@ -7,14 +7,8 @@ use Rattle.rules.proofs.single.emit.Statement.{statement}
 use Rattle.rules.proofs.single.emit.Tie as tie
 use borrow.Author.Needs.{needs}
 
-add-expression : tie.Need-add-expression
-add-expression c = omega (arith, c .before .before .before .before .before .before .before .before .before .before .pre .after .place)
-
-add-expression-2 : tie.Need-add-expression-2
-add-expression-2 c = omega (arith, c .before .before .before .before .before .before .before .before .before .before .pre .after .core-place)
-
-expression-requires : tie.Need-expression-requires
-expression-requires c κs = c .before .before .before .before .before .before .before .before .before .before .pre .after
+first-expression-requires : tie.Need-first-expression-requires
+first-expression-requires c κs = c .before .before .before .before .before .before .before .before .before .before .pre .after
 
 enum-known-r : tie.Need-enum-known-r
 enum-known-r c = search needs
@@ -32,10 +26,10 @@ same-length-3 : tie.Need-same-length-3
 same-length-3 c = search needs
 
 returns : tie.Need-returns
-returns c = (L.emit-wrong _ _ _ _ _ _ _ _ _ (c .before .before .before .before .before .before .before .before .before .before .before .expression .ensures) (c .before .before .before .r .given .1) (c .before .same-type .ensures) (denied _ (c .if1 .taken)), M.stuck _ _ _ _)
+returns c = (L.emit-wrong _ _ _ _ _ _ _ _ _ (c .before .before .before .before .before .before .before .before .before .before .before .first-expression .ensures) (c .before .before .before .r .given .1) (c .before .same-type .ensures) (denied _ (c .if1 .taken)), M.stuck _ _ _ _)
 
-header-requires : tie.Need-header-requires
-header-requires c κs = omega (arith, c .before .before .before .before .before .before .before .before .before .before .before .before .before .before .before .before .before .before .before .before .before .before .before .pre .header, c .before .before .before .before .before .before .before .before .before .before .before .before .expression .kept .1 .1 .1 .1 .1 .1 .1 .1 .0)
+header-of-one-requires : tie.Need-header-of-one-requires
+header-of-one-requires c κs = omega (arith, c .before .before .before .before .before .before .before .before .before .before .before .before .before .before .before .before .before .before .before .before .before .before .before .pre .header, c .before .before .before .before .before .before .before .before .before .before .before .before .first-expression .kept .1 .1 .1 .1 .1 .1 .0)
 
 enum-known-r-2 : tie.Need-enum-known-r-2
 enum-known-r-2 c = search needs
@@ -50,7 +44,7 @@ same-length-6 : tie.Need-same-length-6
 same-length-6 c = search needs
 
 returns-2 : tie.Need-returns-2
-returns-2 c = (L.emit-next _ _ _ _ _ _ _ _ _ (c .before .before .before .before .before .before .before .before .before .before .before .before .before .before .before .expression .ensures) (c .before .before .before .before .before .before .before .r .given .1) (c .before .before .before .before .before .same-type .ensures) (granted _ (c .before .before .before .before .if1 .left)) (c .before .before .header .ensures), M.stays _ _ _)
+returns-2 c = (L.emit-next _ _ _ _ _ _ _ _ _ (c .before .before .before .before .before .before .before .before .before .before .before .before .before .before .before .first-expression .ensures) (c .before .before .before .before .before .before .before .r .given .1) (c .before .before .before .before .before .same-type .ensures) (granted _ (c .before .before .before .before .if1 .left)) (c .before .before .header-of-one .ensures), M.stays _ _ _)
 
 same-length-7 : tie.Need-same-length-7
 same-length-7 c = search needs
@@ -62,7 +56,7 @@ same-length-9 : tie.Need-same-length-9
 same-length-9 c = search needs
 
 returns-3 : tie.Need-returns-3
-returns-3 c = (L.emit-fault _ _ _ _ _ _ _ _ _ (c .before .before .before .before .before .before .before .before .before .expression .ensures) (c .before .r2 .given .1), M.stuck _ _ _ _)
+returns-3 c = (L.emit-fault _ _ _ _ _ _ _ _ _ (c .before .before .before .before .before .before .before .before .before .first-expression .ensures) (c .before .r2 .given .1), M.stuck _ _ _ _)
 
 pub emit-spec : {M : Type 1} → statement M
-emit-spec = tie.close (tie.spec add-expression add-expression-2 expression-requires enum-known-r same-type-requires same-length same-length-2 same-length-3 returns header-requires enum-known-r-2 same-length-4 same-length-5 same-length-6 returns-2 same-length-7 same-length-8 same-length-9 returns-3)
+emit-spec = tie.close (tie.spec first-expression-requires enum-known-r same-type-requires same-length same-length-2 same-length-3 returns header-of-one-requires enum-known-r-2 same-length-4 same-length-5 same-length-6 returns-2 same-length-7 same-length-8 same-length-9 returns-3)
