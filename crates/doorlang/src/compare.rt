@@ -5,7 +5,7 @@ ghost use lib.ListN.{length, take, drop};
 ghost use Rattle.word.specs.Bytes.{wordsOfBytes};
 ghost use Rattle.processor.specs.Machine.{data-start};
 ghost use Rattle.interpreter.specs.Post.{outcomeOf};
-ghost use Rattle.codegen.proofs.Whole.{costs};
+ghost use Rattle.codegen.specs.Costs.{costs};
 ghost use Rattle.agreement.specs.Agreement.{agreesOf, limitOf};
 use crate::build;
 use crate::exec;
