@@ -104,8 +104,11 @@ def number_rows():
         yield row("%s much too large" % option, "exec i %s %s" % (option, "9" * 300), {"i": EXIT}, USAGE, "", "the most is")
         for wrong in ("x", "12x", "-1", "+1", "1.5", "0x10"):
             yield row("%s %s" % (option, wrong), "exec i %s %s" % (option, wrong), {"i": EXIT}, USAGE, "", option + " " + wrong, "no decimal number")
-    yield row("--fuel too large", "compare t --fuel %d" % (2**64), {"t": GCD}, USAGE, "", "--fuel", "the most is %d" % (2**64 - 1))
-    yield row("--fuel that is no number", "compare t --fuel x", {"t": GCD}, USAGE, "", "--fuel x", "no decimal number")
+    for command in ("run", "compare"):
+        yield row("--fuel too large for " + command, "%s t --fuel %d" % (command, 2**64), {"t": GCD}, USAGE, "", "--fuel", "the most is %d" % (2**64 - 1))
+        yield row("--fuel that is no number for " + command, command + " t --fuel x", {"t": GCD}, USAGE, "", "--fuel x", "no decimal number")
+        yield row("--room too large for " + command, command + " t --room 65537", {"t": GCD}, USAGE, "", "--room", "the most is 65536")
+        yield row("an input that is no number for " + command, command + " t --input n", {"t": GCD, "n": b"1 two"}, USAGE, "", "n: number 2 is not a decimal")
     for title, text, said in (("a word", b"1 2 three", "number 3 is not a decimal"), ("a dash", b"1 - 2", "number 2 is not a decimal"),
                               ("two dashes", b"--1", "number 1 is not a decimal"), ("a dash inside", b"1-2", "number 1 is not a decimal"),
                               ("a plus", b"+1", "number 1 is not a decimal"), ("a fraction", b"1.5", "number 1 is not a decimal"),
@@ -138,8 +141,12 @@ def file_rows():
     yield row("a missing input", "exec i --input none", {"i": EXIT}, USAGE, "", "cannot read none")
     yield row("a folder as input", "exec i --input .", {"i": EXIT}, USAGE, "", "cannot read .")
     yield row("a missing block", "exec i --block none", {"i": EXIT}, USAGE, "", "cannot read none")
-    yield row("a missing text", "compare none", {}, USAGE, "", "cannot read none", "No such file")
-    yield row("a missing input of a text", "compare t --input none", {"t": GCD}, USAGE, "", "cannot read none")
+    for command, more in (("check", ""), ("run", ""), ("build", " o"), ("compare", "")):
+        yield row("a missing text for " + command, command + " none" + more, {}, USAGE, "", "cannot read none", "No such file")
+        yield row("a folder as text for " + command, command + " ." + more, {}, USAGE, "", "cannot read .")
+    for command in ("run", "compare"):
+        yield row("a missing input for " + command, command + " t --input none", {"t": GCD}, USAGE, "", "cannot read none")
+        yield row("a folder as block for " + command, command + " t --block .", {"t": GCD}, USAGE, "", "cannot read .")
     yield row("an endless image", "exec /dev/zero", {}, REFUSED, "answer: 4\n")
     yield row("memory that cannot be written", "exec i --memory none/m", {"i": EXIT}, USAGE, "", "cannot write none/m")
     yield row("memory on a full device", "exec i --memory /dev/full", {"i": EXIT}, USAGE, "", "cannot write /dev/full")
