@@ -64,6 +64,9 @@ enum { DOORLANG_FINISHED, DOORLANG_TRAPPED, DOORLANG_OUT_OF_FUEL };
 // How the run of an image stopped (document 03 §4). Of one that has stopped the first is never told.
 enum { DOORLANG_GOING, DOORLANG_EXIT, DOORLANG_TRAP, DOORLANG_FAULT, DOORLANG_LIMIT };
 
+// The steps that the run of an image takes at most: so many for each unit of fuel that its text's run uses, and so many besides.
+enum { DOORLANG_STEPS_FOR_FUEL = 128, DOORLANG_STEPS_BESIDES = 80 };
+
 // The traps of a rule program, at both ends: division by zero, an index outside its array, more than 64 calls at once, a full log.
 enum { DOORLANG_DIVISION = 1, DOORLANG_INDEX = 2, DOORLANG_CALLS = 3, DOORLANG_LOG_FULL = 4 };
 
@@ -85,8 +88,8 @@ uint32_t doorlang_interpret(const uint8_t *text, size_t text_size, const uint8_t
                             uint32_t *number, uint64_t *fuel_left, size_t *logged, size_t *place);
 
 // The image of a text: code for the panel's processor. On an input block of the text it never faults; and where the text's run finishes or traps, the
-// image's run with the same block and log room exits or traps alike, with the same log and arrays, in at most 256 steps for each unit of fuel used and
-// 96 besides. A buffer of DOORLANG_CODE bytes is long enough for every image. Answers 0, 1, 2, 3 and 6.
+// image's run with the same block and log room exits or traps alike, with the same log and arrays, in at most DOORLANG_STEPS_FOR_FUEL steps for each
+// unit of fuel used and DOORLANG_STEPS_BESIDES besides. A buffer of DOORLANG_CODE bytes is long enough for every image. Answers 0, 1, 2, 3 and 6.
 // Gives: the image, at the start of its buffer; `size`, its length in bytes; `place`, as doorlang_check does.
 uint32_t doorlang_compile(const uint8_t *text, size_t text_size, uint8_t *image, size_t image_size, uint32_t *tokens, size_t tokens_size, uint32_t *tree,
                           size_t tree_size, uint32_t *starts, size_t starts_size, uint32_t *core, size_t core_size, size_t *size, size_t *place);

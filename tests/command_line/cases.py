@@ -212,7 +212,7 @@ def lines(**values):
 
 
 # K and K0 of docs/CLAIMS.md.
-STEPS_FOR_FUEL, STEPS_BESIDES = 256, 96
+STEPS_FOR_FUEL, STEPS_BESIDES = 128, 80
 
 
 def text_rows():

@@ -263,7 +263,7 @@ static void test_emulate_refuses(void) {
     expect(emulate(next, sizeof next, smoke, 0) == DOORLANG_NO_ROOM && nothing_told(), "emulate: answer 6, log");
 }
 
-// A text that ends does so in the same way at both ends, in at most 256 steps for each unit of fuel and 96 besides.
+// A text that ends does so in the same way at both ends, in at most the steps that are stated for its fuel.
 static void both_ends(const char *text, const void *input, size_t input_size, const char *what) {
     static uint32_t source_arrays[DOORLANG_ELEMENTS], source_log[ROOM];
     static uint8_t code[DOORLANG_CODE];
@@ -287,7 +287,7 @@ static void both_ends(const char *text, const void *input, size_t input_size, co
     size = told.size;
     memcpy(code, image, size);
     expect(emulate(code, size, input, input_size) == DOORLANG_ACCEPTED && told.stop == stop && told.number == source.number
-               && told.steps <= 256 * (usual.fuel - source.fuel_left) + 96 && told.logged == source.logged
+               && told.steps <= DOORLANG_STEPS_FOR_FUEL * (usual.fuel - source.fuel_left) + DOORLANG_STEPS_BESIDES && told.logged == source.logged
                && memcmp(logs, source_log, sizeof logs) == 0 && memcmp(memory + DOORLANG_ARRAYS, source_arrays, input_size) == 0,
            what);
 }

@@ -15,6 +15,7 @@ use Rattle.codegen.specs.Operators.{stub, trapping}
 use Rattle.codegen.specs.Owed.{nothing, most-elements}
 use Rattle.codegen.proofs.Placement.{At}
 use Rattle.codegen.specs.Costs.{K, C}
+use Rattle.codegen.proofs.Budgets.{activation-steps}
 use Rattle.codegen.proofs.Logic.{Arrays, Setting, spent, Post, Sound}
 use Rattle.codegen.proofs.Frame.{Framed, Same, valueAt, There, Stable, value-same}
 
@@ -71,7 +72,7 @@ pub record Entered (L : Linked) (left f : ℕ) (vs : List ℕ) (w : World) (R : 
 -- a call, from the function's first instruction on
 pub record CallIn (L : Linked) (left : ℕ) : Type 0 where
   pub run : (f : ℕ) (vs ls : List ℕ) (w : World) (R : ℕ) (σ : State) → Entered L left f vs w R σ
-      → Sound (L .setting) (callAt (L .setting .room) (L .functions) left f vs ls w) (K * w .fuel + 80) (w .fuel) C
+      → Sound (L .setting) (callAt (L .setting .room) (L .functions) left f vs ls w) (K * w .fuel + activation-steps) (w .fuel) C
       (λ v ls′ w′ τ. Back (L .setting .elements) (σ .registers Fixed 1) R (σ .memory) (w .fuel) v w′ τ × (ls′ ≡ ls)) σ
 
 -- One activation: of a function with N locals, at B, from where so many more may begin.

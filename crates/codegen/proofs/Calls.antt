@@ -22,6 +22,7 @@ use Rattle.codegen.specs.Expressions.{passes, saves, loads, registersOf,
 use Rattle.codegen.specs.Owed.{nothing, most-parameters}
 use Rattle.codegen.proofs.Placement.{At, at-split}
 use Rattle.codegen.specs.Costs.{K, C}
+use Rattle.codegen.proofs.Budgets.{entering-steps, calling-steps}
 use Rattle.codegen.proofs.Logic.{Arrays, Setting, Post, Sound, sound-rates, sound-then, sound-step, sound-end, sound-ran, Ran, ran-none, ran-step, ran-trans, ran-most}
 use Rattle.codegen.proofs.Numbers.{add-is, down}
 use Rattle.codegen.proofs.Frame.{updated-same, updated-other, Framed, Only, only-puts, put-same, apart, valueBy, valueAt, There, lw-step, sw-step}
@@ -296,7 +297,7 @@ module _ (L : Linked) (A : Activation L) where
 
   enters : (f : ℕ) (vs : List ℕ) (d r q : ℕ) (ls : List ℕ) (w : World) (τ ω : State) → d ≤ most-temporaries → Cor L A ls w τ → Prepared d r vs w τ ω
       → f < length (L .functions) → length vs ≡ getD (L .functions) f nothing .parameters → At (S .code) r (entering (L .entry f) d) q
-      → Sound S (callAt (S .room) (L .functions) (A .left) f vs ls w) (K * w .fuel + 92) (w .fuel) 0 (Returned τ d q ls (w .fuel)) ω
+      → Sound S (callAt (S .room) (L .functions) (A .left) f vs ls w) (K * w .fuel + entering-steps) (w .fuel) 0 (Returned τ d q ls (w .fuel)) ω
   enters f vs d r q ls w τ ω hd c Y hf har hc =
       let F = framed L A in
       let sp-is : aluOf Add (ω .registers Fixed 1) frame-bytes ≡ B + frame-bytes =
@@ -325,7 +326,7 @@ module _ (L : Linked) (A : Activation L) where
 
   pub calls : (f : ℕ) (vs : List ℕ) (ps : List Place) (d p q : ℕ) (ls : List ℕ) (w : World) (τ : State) → d ≤ most-temporaries → τ .status ≡ Going → τ .pc ≡ p → Cor L A ls w τ
       → Held ps vs τ → f < length (L .functions) → length ps ≡ getD (L .functions) f nothing .parameters → length ps ≤ most-parameters → At (S .code) p (calling (L .entry f) ps d) q
-      → Sound S (callAt (S .room) (L .functions) (A .left) f vs ls w) (K * w .fuel + 124) (w .fuel) 0 (Returned τ d q ls (w .fuel)) τ
+      → Sound S (callAt (S .room) (L .functions) (A .left) f vs ls w) (K * w .fuel + calling-steps) (w .fuel) 0 (Returned τ d q ls (w .fuel)) τ
   calls f vs ps d p q ls w τ hd on hp c held hf har few hc =
       let cm = registers-most d in
       let t = at-split (S .code) p (passes ps 0) _ q hc in

@@ -28,6 +28,7 @@ use Rattle.codegen.specs.Expressions.{placeOf, placesOf, calling, decidi
 use Rattle.codegen.specs.Owed.{nodes, nodesOf, count, nothing, Callable, Fits, FitsAll, Tests, most-parameters}
 use Rattle.codegen.proofs.Placement.{At, at-split, at-len}
 use Rattle.codegen.specs.Costs.{K}
+use Rattle.codegen.proofs.Budgets.{value-spare, answer-spare}
 use Rattle.codegen.proofs.Logic.{Arrays, Setting, spent, Post, Sound, sound-rates, sound-bind, sound-bind′, sound-then, sound-then′, sound-post, sound-begin, sound-end, sound-pure, sound-ran, Ran, ran-none, ran-step, ran-trans, ran-most}
 use Rattle.codegen.proofs.Frame.{Same, only-same, same-join, valueAt, There, Stable, value-same}
 use Rattle.codegen.proofs.Macros.{fetch-ok, put-ok, skip-ok}
@@ -65,11 +66,11 @@ module _ (L : Linked) (A : Activation L) where
   -- an action's code stands from p to q; its value comes to a place; at most z nodes begin
   pub record ExprIn (m : Act ℕ) (z d p q : ℕ) (pl : Place) : Type 0 where
     pub run : (ls : List ℕ) (w : World) (σ : State) → σ .status ≡ Going → σ .pc ≡ p → Cor L A ls w σ
-        → Sound S (m ls w) (K * w .fuel - 128) (w .fuel) z (ExprPost L A σ d q pl ls (w .fuel)) σ
+        → Sound S (m ls w) (K * w .fuel - value-spare) (w .fuel) z (ExprPost L A σ d q pl ls (w .fuel)) σ
 
   pub record CondIn (m : Act ℕ) (z : ℕ) (t : Bool) (d p q k : ℕ) : Type 0 where
     pub run : (ls : List ℕ) (w : World) (σ : State) → σ .status ≡ Going → σ .pc ≡ p → Cor L A ls w σ
-        → Sound S (m ls w) (K * w .fuel - 96) (w .fuel) z (CondPost L A t σ d q k ls (w .fuel)) σ
+        → Sound S (m ls w) (K * w .fuel - answer-spare) (w .fuel) z (CondPost L A t σ d q k ls (w .fuel)) σ
 
   -- what an expression's value leaves is ready for more instructions
   ready : {σ τ : State} {d q f g v : ℕ} {pl : Place} {ls₀ ls : List ℕ} {w : World} → f ≤ g → ExprPost L A σ d q pl ls₀ f v ls w τ → Ready L A σ d ls₀ g ls w τ
@@ -93,7 +94,7 @@ module _ (L : Linked) (A : Activation L) where
       → ExprIn (λ ls w. bind (begin ls w) (λ _ ls w. bind (m ls w) (λ k. read a k))) (suc z) d p q (temporary d)
   element-in m a z d p r q pl hf hd ha I hc = record {
     run = λ ls w σ on hp c. sound-begin S ls w _ on (c .log-is) (c .arrays) (λ f e.
-        sound-bind S {z2 = 0} 128 (omega arith) (omega arith) (omega arith) (I .run ls (spent f w) σ on hp (core-spent L A f c))
+        sound-bind S {z2 = 0} 64 (omega arith) (omega arith) (omega arith) (I .run ls (spent f w) σ on hp (core-spent L A f c))
         (λ k ls2 w2 τ Q. sound-rates S (read a k ls2 w2) (omega arith) (omega arith)
         (reads L A a k d r q (w .fuel) pl ls ls2 w2 σ τ hd (there L A pl d hf) ha (ready (omega arith) Q) (Q .here) (Q .is) hc)));
   }
@@ -103,7 +104,7 @@ module _ (L : Linked) (A : Activation L) where
       → ExprIn (λ ls w. bind (begin ls w) (λ _ ls w. bind (m ls w) (λ x. gives (apply o x)))) (suc z) d p q (result o pl d)
   unary-in m o z d p r q pl hf hd I hc = record {
     run = λ ls w σ on hp c. sound-begin S ls w _ on (c .log-is) (c .arrays) (λ f e.
-        sound-bind S {z2 = 0} 128 (omega arith) (omega arith) (omega arith) (I .run ls (spent f w) σ on hp (core-spent L A f c))
+        sound-bind S {z2 = 0} 64 (omega arith) (omega arith) (omega arith) (I .run ls (spent f w) σ on hp (core-spent L A f c))
         (λ k ls2 w2 τ Q. sound-rates S (goes (apply o k) ls2 w2) (omega arith) (omega arith)
         (applies L A o k d r q (w .fuel) pl ls ls2 w2 σ τ hd (there L A pl d hf) (ready (omega arith) Q) (Q .here) (Q .is) hc)));
   }
@@ -112,12 +113,12 @@ module _ (L : Linked) (A : Activation L) where
   sides-in : (ma mb : Act ℕ) (g : ℕ → ℕ → Act ℕ) (R : State → List ℕ → ℕ → Post ℕ) (za zb d p r u : ℕ) (pa pb : Place) → Fit L A pa d → Fit L A pb (above pa d)
       → ExprIn ma za d p r pa → ExprIn mb zb (above pa d) r u pb
       → ((x y f : ℕ) (ls₀ ls : List ℕ) (w : World) (σ ρ : State) → Ready L A σ d ls₀ f ls w ρ → ρ .pc ≡ u → valueAt pa B ρ ≡ x → valueAt pb B ρ ≡ y
-      → Sound S (g x y ls w) (K * w .fuel + 124) (w .fuel) 0 (R σ ls₀ f) ρ)
+      → Sound S (g x y ls w) (K * w .fuel + 64) (w .fuel) 0 (R σ ls₀ f) ρ)
       → (ls : List ℕ) (w : World) (σ : State) → σ .status ≡ Going → σ .pc ≡ p → Cor L A ls w σ
-      → Sound S (bind (begin ls w) (λ _ ls w. bind (ma ls w) (λ x ls w. bind (mb ls w) (λ y. g x y)))) (K * w .fuel - 128) (w .fuel) (suc (za + zb)) (R σ ls (w .fuel)) σ
+      → Sound S (bind (begin ls w) (λ _ ls w. bind (ma ls w) (λ x ls w. bind (mb ls w) (λ y. g x y)))) (K * w .fuel - value-spare) (w .fuel) (suc (za + zb)) (R σ ls (w .fuel)) σ
   sides-in ma mb g R za zb d p r u pa pb fa fb I J last ls w σ on hp c = sound-begin S ls w _ on (c .log-is) (c .arrays) (λ f e.
-      sound-bind S {z2 = zb} 128 (omega arith) (omega arith) (omega arith) (I .run ls (spent f w) σ on hp (core-spent L A f c))
-      (λ x ls2 w2 τ Q. sound-bind S {z2 = 0} 124 (omega arith) (omega arith) (omega arith) (J .run ls2 w2 τ (Q .on) (Q .here) (Q .cor))
+      sound-bind S {z2 = zb} 64 (omega arith) (omega arith) (omega arith) (I .run ls (spent f w) σ on hp (core-spent L A f c))
+      (λ x ls2 w2 τ Q. sound-bind S {z2 = 0} 64 (omega arith) (omega arith) (omega arith) (J .run ls2 w2 τ (Q .on) (Q .here) (Q .cor))
       (λ y ls3 w3 ρ Z. last x y (w .fuel) ls ls3 w3 σ ρ (record {
         on = Z .on;
         cor = Z .cor;
@@ -145,7 +146,7 @@ module _ (L : Linked) (A : Activation L) where
     run = λ ls w σ on hp cr.
         sound-rates S _ (omega arith) (omega arith)
         (sides-in ma mb (operate o) (λ σ ls₀ f. CondPost L A t σ d q k ls₀ f) za zb d p r u pa pb fa fb I J
-        (λ x y f ls₀ ls w σ ρ Y hp hx hy. subst (λ (v : Result ℕ). Sound S v (K * w .fuel + 124) (w .fuel) 0 (CondPost L A t σ d q k ls₀ f) ρ) (sym (e x y ls w))
+        (λ x y f ls₀ ls w σ ρ Y hp hx hy. subst (λ (v : Result ℕ). Sound S v (K * w .fuel + 64) (w .fuel) 0 (CondPost L A t σ d q k ls₀ f) ρ) (sym (e x y ls w))
         (compares L A c turned t (A .near) x y d (suc (above pa d)) u q k f pa pb ls₀ ls w σ ρ (there L A pa d fa) (there L A pb (above pa d) fb)
         (let k : d ≤ above pa d = above-le L A pa d in omega (arith, k)) (stable L A pb (above pa d) (suc (above pa d)) fb (omega arith)) Y hp hx hy hc)) ls w σ on hp cr);
   }
@@ -162,13 +163,13 @@ module _ (L : Linked) (A : Activation L) where
   always-in n d p q k t hc = record { run = λ ls w σ on hp c. sound-begin S ls w _ on (c .log-is) (c .arrays) (λ f e. go n t hc ls w σ f e on hp c) }
     where
       stay : (n : ℕ) (t : Bool) (ls : List ℕ) (w : World) (σ : State) (f : ℕ) → w .fuel ≡ suc f → σ .status ≡ Going → σ .pc ≡ aim L A t n q k → Cor L A ls w σ
-          → Sound S (goes n ls (spent f w)) (K * w .fuel - 96) f 0 (CondPost L A t σ d q k ls (w .fuel)) σ
+          → Sound S (goes n ls (spent f w)) (K * w .fuel - answer-spare) f 0 (CondPost L A t σ d q k ls (w .fuel)) σ
       stay n t ls w σ f e on h c =
           sound-end S (omega arith) (omega arith) (record { on = on; here = h; cor = core-spent L A f c; keep = λ j h. refl; locals = refl; less = omega arith })
 
       jumps : (n : ℕ) (t : Bool) → aim L A t n q k ≡ q + k → getD (S .code) p bad ≡ jump (suc k) → suc p ≡ q
           → (ls : List ℕ) (w : World) (σ : State) (f : ℕ) → w .fuel ≡ suc f → σ .status ≡ Going → σ .pc ≡ p → Cor L A ls w σ
-          → Sound S (goes n ls (spent f w)) (K * w .fuel - 96) f 0 (CondPost L A t σ d q k ls (w .fuel)) σ
+          → Sound S (goes n ls (spent f w)) (K * w .fuel - answer-spare) f 0 (CondPost L A t σ d q k ls (w .fuel)) σ
       jumps n t ha hj hq ls w σ f e on hp c =
           sound-ran S 1 (omega arith) (ran-step S {τ = goto (σ .pc + suc k) σ} on hp hj refl (ran-none S))
           (sound-end S (omega arith) (omega arith) (record {
@@ -181,7 +182,7 @@ module _ (L : Linked) (A : Activation L) where
           }))
 
       go : (n : ℕ) (t : Bool) → At (S .code) p (always t n k) q → (ls : List ℕ) (w : World) (σ : State) (f : ℕ) → w .fuel ≡ suc f → σ .status ≡ Going → σ .pc ≡ p → Cor L A ls w σ
-          → Sound S (goes n ls (spent f w)) (K * w .fuel - 96) f 0 (CondPost L A t σ d q k ls (w .fuel)) σ
+          → Sound S (goes n ls (spent f w)) (K * w .fuel - answer-spare) f 0 (CondPost L A t σ d q k ls (w .fuel)) σ
       go zero true hc ls w σ f e on hp c = stay zero true ls w σ f e on (hp ∙ hc) c
       go (suc n) true hc ls w σ f e on hp c = jumps (suc n) true refl (hc .0) (hc .1) ls w σ f e on hp c
       go zero false hc ls w σ f e on hp c = jumps zero false refl (hc .0) (hc .1) ls w σ f e on hp c
@@ -410,7 +411,7 @@ module _ (L : Linked) (A : Activation L) where
       → ExprIn (λ ls w. bind (begin ls w) (λ _ ls w. bind (m ls w) (λ vs. callAt (S .room) (L .functions) (A .left) f vs))) (suc z) d p q (temporary d)
   call-in m f z d p r s q ps hd hf har few I hc hm = record {
     run = λ ls w σ on hp c. sound-begin S ls w _ on (c .log-is) (c .arrays) (λ g e.
-        sound-bind S {z2 = 0} 128 (omega arith) (omega arith) (omega arith) (I .run ls (spent g w) σ on hp (core-spent L A g c))
+        sound-bind S {z2 = 0} 120 (omega arith) (omega arith) (omega arith) (I .run ls (spent g w) σ on hp (core-spent L A g c))
         (λ vs ls2 w2 τ Q. sound-then S {z2 = 0} (callAt (S .room) (L .functions) (A .left) f vs ls2 w2) 2 (omega arith) (omega arith) (omega arith)
         (calls L A f vs ps d r s ls2 w2 τ (omega arith) (Q .on) (Q .here) (Q .cor) (Q .held) hf har few hc)
         (λ v ls3 w3 ρ Z.
@@ -426,7 +427,7 @@ module _ (L : Linked) (A : Activation L) where
       → CondIn (λ ls w. bind (begin ls w) (λ _ ls w. bind (m ls w) (λ vs. callAt (S .room) (L .functions) (A .left) f vs))) (suc z) t d p q k
   tested-call m f t z d p r s q k ps hd hf har few I hc hm = record {
     run = λ ls w σ on hp c. sound-begin S ls w _ on (c .log-is) (c .arrays) (λ g e.
-        sound-bind S {z2 = 0} 128 (omega arith) (omega arith) (omega arith) (I .run ls (spent g w) σ on hp (core-spent L A g c))
+        sound-bind S {z2 = 0} 120 (omega arith) (omega arith) (omega arith) (I .run ls (spent g w) σ on hp (core-spent L A g c))
         (λ vs ls2 w2 τ Q. sound-then S {z2 = 0} (callAt (S .room) (L .functions) (A .left) f vs ls2 w2) 2 (omega arith) (omega arith) (omega arith)
         (calls L A f vs ps d r s ls2 w2 τ (omega arith) (Q .on) (Q .here) (Q .cor) (Q .held) hf har few hc)
         (λ v ls3 w3 ρ Z.

@@ -23,6 +23,7 @@ use Rattle.codegen.specs.Statements.{limit, leaving, block, clears, func
 use Rattle.codegen.specs.Owed.{nothing, sizeOf, RunsAll, Proper}
 use Rattle.codegen.proofs.Placement.{At, at-split}
 use Rattle.codegen.specs.Costs.{K, C}
+use Rattle.codegen.proofs.Budgets.{activation-steps}
 use Rattle.codegen.proofs.Logic.{Arrays, Setting, Post, Sound, sound-bind, sound-end, sound-ran, Ran, ran-none, ran-step, ran-trans, ran-most}
 use Rattle.codegen.proofs.Frame.{updated-same, updated-other, Framed, Only, only-puts, sw-step}
 use Rattle.codegen.proofs.Macros.{trap-ok}
@@ -102,7 +103,7 @@ module _ (L : Linked) where
       (placed : (f : ℕ) → f < length (L .functions) → (q : ℕ) × At (S .code) (L .entry f) (function (L .entry) (getD (L .functions) f nothing)) q) where
     -- a call that may not be made
     full : (f : ℕ) (vs ls : List ℕ) (w : World) (R : ℕ) (σ : State) → Entered L 0 f vs w R σ
-        → Sound S (callAt (S .room) (L .functions) 0 f vs ls w) (K * w .fuel + 80) (w .fuel) C
+        → Sound S (callAt (S .room) (L .functions) 0 f vs ls w) (K * w .fuel + activation-steps) (w .fuel) C
         (λ v ls′ w′ τ. Back (S .elements) (σ .registers Fixed 1) R (σ .memory) (w .fuel) v w′ τ × (ls′ ≡ ls)) σ
     unfolding callAt function functionBy
     full f vs ls w R σ E =
@@ -115,7 +116,7 @@ module _ (L : Linked) where
     whole : (f : ℕ) (vs ls : List ℕ) (w : World) (A : Activation L) (σ : State) → A .near ≡ nearIn (getD (L .functions) f nothing)
         → A .N ≡ getD (L .functions) f nothing .parameters + getD (L .functions) f nothing .lets → A .B ≡ σ .registers Fixed 1 → A .m₀ ≡ σ .memory
         → Entered L (suc (A .left)) f vs w (A .R) σ
-        → Sound S (callAt (S .room) (L .functions) (suc (A .left)) f vs ls w) (K * w .fuel + 80) (w .fuel) C
+        → Sound S (callAt (S .room) (L .functions) (suc (A .left)) f vs ls w) (K * w .fuel + activation-steps) (w .fuel) C
         (λ v ls′ w′ τ. Back (S .elements) (A .B) (A .R) (A .m₀) (w .fuel) v w′ τ × (ls′ ≡ ls)) σ
     unfolding callAt function functionBy
     whole f vs ls w A σ hn hN hB hm E =
@@ -133,13 +134,13 @@ module _ (L : Linked) where
         let σ1 : State = goto (suc (suc p)) σ in
         let σ2 : State = stores (A .B + 0) (σ .registers Fixed 0) σ1 in
         let z = cleared (A .B) (g .parameters) (g .lets) (suc (suc (suc p))) (t .0) σ2 (framed L A) loc (sym hB) (t .1) refl refl in
-        subst (λ (r : Result ℕ). Sound S r (K * w .fuel + 80) (w .fuel) C (λ v ls′ w′ τ. Back (S .elements) (A .B) (A .R) (A .m₀) (w .fuel) v w′ τ × (ls′ ≡ ls)) σ)
+        subst (λ (r : Result ℕ). Sound S r (K * w .fuel + activation-steps) (w .fuel) C (λ v ls′ w′ τ. Back (S .elements) (A .B) (A .R) (A .m₀) (w .fuel) v w′ τ × (ls′ ≡ ls)) σ)
         (sym (back-is (S .room) ls (exs L A (g .body) (vs ++ replicate (g .lets) 0) w)))
         (sound-ran S 66 (omega arith)
         (ran-most S (omega arith) (ran-step S {τ = σ1} (E .on) (E .here) (hc .0)
         (enough σ false (ne-eqb _ _ ne) ∙ ap (λ (a : ℕ). goto a σ) (let y : σ .pc + 2 ≡ suc (suc p) = omega (arith, E .here) in y))
         (ran-step S {τ = σ2} refl refl (hc .1 .1 .0) (sw-step (S .room) ra 0 σ1 (framed L A) (omega arith) refl (sym hB)) (z .1))))
-        (sound-bind S {z2 = 0} 14 (omega arith) (omega arith) (let k = P .short in omega (arith, k))
+        (sound-bind S {z2 = 0} 6 (omega arith) (omega arith) (let k = P .short in omega (arith, k))
         (blk L A (λ h k. proper h k .few) (g .body) (t .0) (u .0) (subst (λ (n : ℕ). RunsAll (L .functions) (S .elements) n (g .body)) (sym hN) (P .body)) (P .short)
         (subst (λ (b : Bool). At (S .code) (t .0) (block (L .entry) b (g .body)) (u .0)) (sym hn) (u .1))
         .run (vs ++ replicate (g .lets) 0) w (z .0) (z .2 .on) (z .2 .here) (core0 (z .0) (t .0) (z .2)))
@@ -181,7 +182,7 @@ module _ (L : Linked) where
                 ∙ getD-zeros (getD (L .functions) f nothing .lets) (y - n))
 
         ends : {z : ℕ} (fl : Flow) (ls2 : List ℕ) (w2 : World) (τ : State) (r q : ℕ) → At (S .code) r (opi Add answer x0 0 ∷ leaving) q → StmtPost L A r (w .fuel) fl ls2 w2 τ
-            → Sound S (goes (result (S .room) fl) ls w2) (K * w2 .fuel + 14) (w2 .fuel) z (λ v ls′ w′ τ′. Back (S .elements) (A .B) (A .R) (A .m₀) (w .fuel) v w′ τ′ × (ls′ ≡ ls)) τ
+            → Sound S (goes (result (S .room) fl) ls w2) (K * w2 .fuel + 6) (w2 .fuel) z (λ v ls′ w′ τ′. Back (S .elements) (A .B) (A .R) (A .m₀) (w .fuel) v w′ τ′ × (ls′ ≡ ls)) τ
         ends next ls2 w2 τ r q hc Z =
             let ω : State = puts answer 0 τ in
             let h = leaves L A 0 (suc r) q (w .fuel) ls2 w2 ω (hc .1) refl (ap suc (Z .here)) (core-answer L A (Z .cor) (only-puts Argument 0 0 (suc (τ .pc)) τ refl)) refl (Z .less) in

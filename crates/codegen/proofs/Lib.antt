@@ -1,4 +1,5 @@
 pub mod Placement
+pub mod Budgets
 pub mod Logic
 pub mod Numbers
 pub mod Frame

@@ -27,6 +27,7 @@ use Rattle.codegen.specs.Statements.{leaving, over, otherwise, brought, 
 use Rattle.codegen.specs.Owed.{nodes, nodesOf, size, sizeOf, count, nothing, Callable, Fits, FitsAll, Tests, Runs, RunsAll, most-parameters}
 use Rattle.codegen.proofs.Placement.{At, at-split, at-len}
 use Rattle.codegen.specs.Costs.{K, C}
+use Rattle.codegen.proofs.Budgets.{answer-spare}
 use Rattle.codegen.proofs.Logic.{Arrays, Setting, spent, Post, Sound, Halt, sound-rates, sound-bind, sound-bind′, sound-then, sound-then′, sound-post, sound-begin, sound-step, sound-end, sound-stop, sound-pure, sound-ran, Ran, ran-none, ran-step, ran-trans, ran-most}
 use Rattle.codegen.proofs.Numbers.{in-data}
 use Rattle.codegen.proofs.Frame.{updated-same, updated-other, Framed, Only, only-puts, Same, only-same, same-join, valueAt, There, Stable, value-same, lw-step, sw-step}
@@ -291,18 +292,18 @@ module _ (L : Linked) (A : Activation L) where
   unfolding rounds
   loop m n y z p r u q k j hs hk hr hj hq I J hc zero ls w σ hg on hp c = sound-stop S (omega arith) (omega arith) (on, c .log-is, c .arrays, (let e : w .fuel ≡ 0 = omega arith in e))
   loop m n y z p r u q k j hs hk hr hj hq I J hc (suc g) ls w σ hg on hp c =
-      sound-bind′ S {z2 = z} 104 (omega arith) (λ _ _ _ _ Q. omega (arith, Q .less)) (omega arith) (omega arith) (I .run ls w σ on hp c)
+      sound-bind′ S {z2 = z} 12 (omega arith) (λ _ _ _ _ Q. omega (arith, Q .less)) (omega arith) (omega arith) (I .run ls w σ on hp c)
       (λ v ls2 w2 τ Q. go v ls ls2 w w2 σ τ hg Q
       (λ ls3 w3 ρ h2 on2 hp2 c3. loop m n y z p r u q k j hs hk hr hj hq I J hc g ls3 w3 ρ h2 on2 hp2 c3))
     where
       go : (v : ℕ) (ls ls2 : List ℕ) (w w2 : World) (σ τ : State) → w .fuel ≤ suc g → CondPost L A false σ 0 r k ls (w .fuel) v ls2 w2 τ
           → ((ls3 : List ℕ) (w3 : World) (ρ : State) → w3 .fuel ≤ g → ρ .status ≡ Going → ρ .pc ≡ p → Cor L A ls3 w3 ρ
           → Sound S (rounds g m n ls3 w3) (K * w3 .fuel + 8) (w3 .fuel) (y + z) (StmtPost q (w3 .fuel)) ρ)
-          → Sound S (branch v (λ ls w. bind (n ls w) (λ f. followed f (rounds g m n))) (gives next) ls2 w2) (K * w2 .fuel + 104) (w2 .fuel) z (StmtPost q (w .fuel)) τ
+          → Sound S (branch v (λ ls w. bind (n ls w) (λ f. followed f (rounds g m n))) (gives next) ls2 w2) (K * w2 .fuel + 12) (w2 .fuel) z (StmtPost q (w .fuel)) τ
       go zero ls ls2 w w2 σ τ hg Q again =
           sound-end S (omega arith) (omega arith) (record { on = Q .on; here = Q .here ∙ (let y : r + k ≡ q = omega arith in y); cor = Q .cor; less = omega (arith, Q .less) })
       go (suc v) ls ls2 w w2 σ τ hg Q again =
-          sound-bind S {z2 = 0} 104 (omega arith) (omega arith) (omega arith) (J .run ls2 w2 τ (Q .on) (Q .here) (Q .cor))
+          sound-bind S {z2 = 0} 12 (omega arith) (omega arith) (omega arith) (J .run ls2 w2 τ (Q .on) (Q .here) (Q .cor))
           (λ fl ls3 w3 ρ Z. follow fl (rounds g m n) u q (w2 .fuel) (w .fuel) ls3 w3 ρ (omega arith) (omega arith) (omega (arith, Q .less)) Z
           (λ Z. sound-step S {z2 = y + z} {τ = goto p ρ} (Z .on) (Z .here) hc (ap (λ (a : ℕ). goto a ρ) (let e : ρ .pc - j ≡ p = omega (arith, Z .here) in e)) (omega arith) (omega arith)
           (outer (rounds g m n ls3 w3) q (w3 .fuel) (w .fuel) (goto p ρ) (omega (arith, Z .less, Q .less)) (omega arith) (omega arith)
@@ -372,7 +373,7 @@ module _ (L : Linked) (A : Activation L) where
 
   pub record AnswerIn (m : Act ℕ) (z p q : ℕ) : Type 0 where
     pub run : (ls : List ℕ) (w : World) (σ : State) → σ .status ≡ Going → σ .pc ≡ p → Cor L A ls w σ
-        → Sound S (m ls w) (K * w .fuel - 96) (w .fuel) z (AnswerPost q (w .fuel)) σ
+        → Sound S (m ls w) (K * w .fuel - answer-spare) (w .fuel) z (AnswerPost q (w .fuel)) σ
 
   brought-in : (m : Act ℕ) (z p r q : ℕ) (pl : Place) → Fit L A pl 0 → ExprIn L A m z 0 p r pl → At (S .code) r (bring pl) q → AnswerIn m z p q
   brought-in m z p r q pl hf I hb = record {
@@ -390,7 +391,7 @@ module _ (L : Linked) (A : Activation L) where
       → AnswerIn (λ ls w. bind (begin ls w) (λ _ ls w. bind (m ls w) (λ vs. callAt (S .room) (L .functions) (A .left) f vs))) (suc z) p q
   answered-call m f z p r q ps hf har few I hc = record {
     run = λ ls w σ on hp c. sound-begin S ls w _ on (c .log-is) (c .arrays) (λ g e.
-        sound-bind S {z2 = 0} 128 (omega arith) (omega arith) (omega arith) (I .run ls (spent g w) σ on hp (core-spent L A g c))
+        sound-bind S {z2 = 0} 120 (omega arith) (omega arith) (omega arith) (I .run ls (spent g w) σ on hp (core-spent L A g c))
         (λ vs ls2 w2 τ Q. sound-then S {z2 = 0} (callAt (S .room) (L .functions) (A .left) f vs ls2 w2) 0 (omega arith) (omega arith) (omega arith)
         (calls L A f vs ps 0 r q ls2 w2 τ (omega arith) (Q .on) (Q .here) (Q .cor) (Q .held) hf har few hc)
         (λ v ls3 w3 ρ Z. sound-end S (omega arith) (omega arith) (record { on = Z .on; here = Z .here; cor = Z .cor; is = Z .is; less = omega (arith, Z .less, Q .less) }))));

@@ -1,5 +1,5 @@
 -- The front page: for every core program that elaboration gives, if its image is not longer than document 03 §5 lets it be, the image keeps the meaning.
--- A unit of fuel is paid for by at most 256 steps of the machine, with 96 for the beginning and the end; a step by at most 65,536 units of fuel, and
+-- A unit of fuel is paid for by at most 128 steps of the machine, with 80 for the beginning and the end; a step by at most 65,536 units of fuel, and
 -- as many may be owed when the run stops.
 use Prim.Native.Nat.{ℕ, _*_, _≤_}
 use mathlib.Core.Path.{_≡_}

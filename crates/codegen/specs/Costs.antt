@@ -4,10 +4,10 @@ use Rattle.claims.specs.Keeps.{Costs}
 
 -- the steps that one unit of fuel pays for at most, and those besides
 abbrev pub K : ℕ
-K = 256
+K = 128
 
 abbrev pub K0 : ℕ
-K0 = 96
+K0 = 80
 
 -- the fuel that one step pays for at most, and that besides
 abbrev pub C : ℕ

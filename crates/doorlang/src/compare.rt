@@ -26,9 +26,9 @@ use toolchain::compile::Compiled;
 use toolchain::interpret::Interpreted;
 
 // K and K0 of claim 3: machine steps for a unit of fuel, and besides.
-const STEPS_FOR_FUEL: u64 = 256;
+const STEPS_FOR_FUEL: u64 = 128;
 
-const STEPS_BESIDES: u64 = 96;
+const STEPS_BESIDES: u64 = 80;
 
 // The limit under which the image ends where a run that used so much fuel has ended, as far as steps are counted.
 fn limit_for(used: u64) -> u64
