@@ -82,21 +82,21 @@ pub record Vectors : Type 0 where
   -- "| 99 20 -1 5 | 0, 2, 100 | 1 1 | 108 |": the panel's processor, too, exits with log 0, 2, 100 and 1 at both doors
   pub Z-two : Runs Z (99 ∷ 20 ∷ minus 1 ∷ 5 ∷ 0 ∷ 0 ∷ []) finished (0 ∷ 2 ∷ 100 ∷ []) (99 ∷ 20 ∷ minus 1 ∷ 5 ∷ 1 ∷ 1 ∷ []) 108
   -- "| body of main (helpers in brackets) | outcome | log | fuel |": "| nothing | finished | | 0 |"
-  pub row-1 : Runs (main "") [] finished [] [] 0
-  pub row-2 : Runs (main "emit 1;") [] finished (1 ∷ []) [] 2
-  pub row-3 : Runs (main "emit 1; emit 7 / (3 - 3); emit 2;") [] (trap 1) (1 ∷ []) [] 8
+  pub row-nothing : Runs (main "") [] finished [] [] 0
+  pub row-emit : Runs (main "emit 1;") [] finished (1 ∷ []) [] 2
+  pub row-trap-1 : Runs (main "emit 1; emit 7 / (3 - 3); emit 2;") [] (trap 1) (1 ∷ []) [] 8
   -- "-2147483648, 0, -3, -1, -3, 1, -2147483648"
-  pub row-4 : Runs (main "let m: int = -2147483647 - 1; emit m / -1; emit m % -1; emit -7 / 2; emit -7 % 2; emit 7 / -2; emit 7 % -2; emit -m;") []
+  pub row-division : Runs (main "let m: int = -2147483647 - 1; emit m / -1; emit m % -1; emit -7 / 2; emit -7 % 2; emit 7 / -2; emit 7 % -2; emit -m;") []
       finished (minus 2147483648 ∷ 0 ∷ minus 3 ∷ minus 1 ∷ minus 3 ∷ 1 ∷ minus 2147483648 ∷ []) [] 38
-  pub row-5 : Runs (main "emit 2147483647 + 1; emit 65536 * 65536; emit 65537 * 65537;") [] finished (minus 2147483648 ∷ 0 ∷ 131073 ∷ []) [] 12
-  pub row-6 : Runs (with "var a: int[3];" "a[2] = 5; emit a[2]; emit a[3];") (0 ∷ 0 ∷ 0 ∷ []) (trap 2) (5 ∷ []) (0 ∷ 0 ∷ 5 ∷ []) 9
-  pub row-7 : Runs (with "fn f(x: int): int { emit x; return x; }" "emit f(1) + f(2) * f(3);") [] finished (1 ∷ 2 ∷ 3 ∷ 7 ∷ []) [] 21
-  pub row-8 : Runs (with "fn f(x: int): int { emit x; return x; } var a: int[2];" "a[f(1)] = f(0); a[f(2)] = f(9) / 0;") (5 ∷ 5 ∷ [])
+  pub row-wraps : Runs (main "emit 2147483647 + 1; emit 65536 * 65536; emit 65537 * 65537;") [] finished (minus 2147483648 ∷ 0 ∷ 131073 ∷ []) [] 12
+  pub row-trap-2 : Runs (with "var a: int[3];" "a[2] = 5; emit a[2]; emit a[3];") (0 ∷ 0 ∷ 0 ∷ []) (trap 2) (5 ∷ []) (0 ∷ 0 ∷ 5 ∷ []) 9
+  pub row-order : Runs (with "fn f(x: int): int { emit x; return x; }" "emit f(1) + f(2) * f(3);") [] finished (1 ∷ 2 ∷ 3 ∷ 7 ∷ []) [] 21
+  pub row-index-last : Runs (with "fn f(x: int): int { emit x; return x; } var a: int[2];" "a[f(1)] = f(0); a[f(2)] = f(9) / 0;") (5 ∷ 5 ∷ [])
       (trap 1) (1 ∷ 0 ∷ 2 ∷ 9 ∷ []) (5 ∷ 0 ∷ []) 28
-  pub row-9 : Runs (with "fn f(n: int): int { if n == 0 { return 0; } else { return 1 + f(n - 1); } }" "emit f(62);") [] finished (62 ∷ []) [] 691
-  pub row-10 : Runs (with "fn f(n: int): int { if n == 0 { return 0; } else { return 1 + f(n - 1); } }" "emit f(63);") [] (trap 3) [] [] 696
+  pub row-62 : Runs (with "fn f(n: int): int { if n == 0 { return 0; } else { return 1 + f(n - 1); } }" "emit f(62);") [] finished (62 ∷ []) [] 691
+  pub row-63 : Runs (with "fn f(n: int): int { if n == 0 { return 0; } else { return 1 + f(n - 1); } }" "emit f(63);") [] (trap 3) [] [] 696
   -- "`while true { }` with fuel 1,000"
-  pub row-11 : Runs (main "while true { }") [] (stopped outOfFuel) [] [] 1000
+  pub row-endless : Runs (main "while true { }") [] (stopped outOfFuel) [] [] 1000
   -- "Answer 1: `emit 2147483648;`, `emit 01;`, `emit 12a;`, a 33-character name, `if 1 < 2 < 3 { }`, 32 nested parentheses in main (31 are fine), `fn Main() { }`."
   pub too-large : Unreadable (main "emit 2147483648;")
   pub padded : Unreadable (main "emit 01;")
