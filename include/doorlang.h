@@ -23,7 +23,7 @@
 //   only there; the other figures where the answer is 0, and only there.
 // - On a refusal, which is any answer but 0, the buffers stay as they were, working room apart. On 0, what lies beyond a result in its buffer does.
 // - Nothing is allocated, and nothing is kept from one call to the next: threads may call at once, each with buffers of its own. Give each 2 MB of
-//   stack: the deepest run tried took less than half of that, which is measured and not proved.
+//   stack: the deepest and longest texts tried stay within it, which is measured and not proved.
 #ifndef DOORLANG_H
 #define DOORLANG_H
 

@@ -4,7 +4,7 @@
     tests/command_line/cases.py PROGRAM      the last line is 'N passed, M failed'
 
 A row is a title, the arguments, the files that they name, and what must come of it: the exit status, standard output whole, and what
-standard error has in it. PROGRAM is the launcher, which sets the exit status.
+standard error has in it. PROGRAM is the launcher, which sets the exit status. Answer 6 has no row: the program lends what is stated.
 """
 import os
 import struct
@@ -93,7 +93,7 @@ def exec_rows():
     yield row("answer 4: too long", "exec i", {"i": bytes(524292)}, REFUSED, "answer: 4\n", "longer")
     yield row("answer 4: much too long", "exec i", {"i": bytes(5000000)}, REFUSED, "answer: 4\n")
     yield row("answer 4 before answer 5", "exec i --block b", {"i": b"\0", "b": b"\0"}, REFUSED, "answer: 4\n")
-    yield row("answer 5: not whole words", "exec i --block b", {"i": EXIT, "b": b"\1\2\3"}, REFUSED, "answer: 5\n", "input block")
+    yield row("answer 5: not whole words", "exec i --block b", {"i": EXIT, "b": b"\1\2\3"}, REFUSED, "answer: 5\n", "b: the input block")
     yield row("answer 5: too long", "exec i --block b", {"i": EXIT, "b": bytes(1048580)}, REFUSED, "answer: 5\n", "input block")
 
 
@@ -103,7 +103,7 @@ def number_rows():
         yield row("%s too large" % option, "exec i %s %d" % (option, most + 1), {"i": EXIT}, USAGE, "", option, "the most is %d" % most)
         yield row("%s much too large" % option, "exec i %s %s" % (option, "9" * 300), {"i": EXIT}, USAGE, "", "the most is")
         for wrong in ("x", "12x", "-1", "+1", "1.5", "0x10"):
-            yield row("%s %s" % (option, wrong), "exec i %s %s" % (option, wrong), {"i": EXIT}, USAGE, "", option + " " + wrong, "no decimal number")
+            yield row("%s %s" % (option, wrong), "exec i %s %s" % (option, wrong), {"i": EXIT}, USAGE, "", option + " " + wrong, "no decimal number", "usage: doorlang")
     for command in ("run", "compare"):
         yield row("--fuel too large for " + command, "%s t --fuel %d" % (command, 2**64), {"t": GCD}, USAGE, "", "--fuel", "the most is %d" % (2**64 - 1))
         yield row("--fuel that is no number for " + command, command + " t --fuel x", {"t": GCD}, USAGE, "", "--fuel x", "no decimal number")
@@ -128,6 +128,7 @@ def usage_rows():
                                     ("one file for build", "build i", "lacks a file"), ("no file for compare", "compare", "lacks a file"), ("two files for compare", "compare i j", "a file more", "j"),
                                     ("a limit for compare", "compare i --limit 3", "no such option", "--limit"), ("a memory for compare", "compare i --memory m", "no such option", "--memory"),
                                     ("input and block for compare", "compare i --input a --block b", "--input and --block"), ("help with a file", "help i", "a file more", "i"), ("help with an option", "help --room 3", "no such option", "--room"),
+                                    ("an option as a value", "exec i --memory --limit", "no value", "--memory"), ("an option as a number", "exec i --room --limit 3", "no value", "--room"),
                                     ("many arguments", "exec" + " i" * 40, "more arguments")):
         yield row(title, arguments, {"i": EXIT, "j": EXIT}, USAGE, "", *said, "usage: doorlang")
     yield "an empty name", ["exec", ""], {}, USAGE, "", ("cannot read",)
@@ -149,6 +150,10 @@ def file_rows():
         yield row("a folder as block for " + command, command + " t --block .", {"t": GCD}, USAGE, "", "cannot read .")
     yield row("an endless image", "exec /dev/zero", {}, REFUSED, "answer: 4\n")
     yield row("memory that cannot be written", "exec i --memory none/m", {"i": EXIT}, USAGE, "", "cannot write none/m")
+    yield row("an image over its text", "build t t", {"t": GCD}, USAGE, "", "t: the image would replace its text")
+    for option, files in (("", {"i": EXIT}), ("--block b ", {"i": EXIT, "b": bytes(8)}), ("--input b ", {"i": EXIT, "b": b"1 2"})):
+        over = "b" if option else "i"
+        yield row("memory over %s %s" % (option, over), "exec i %s--memory %s" % (option, over), files, USAGE, "", over + ": the memory would replace")
     yield row("memory on a full device", "exec i --memory /dev/full", {"i": EXIT}, USAGE, "", "cannot write /dev/full")
 
 
@@ -194,11 +199,12 @@ REFUSALS = (
     ("an upper-case letter", b"fn Main() { }\n", 1, "t:1:4"),
     ("a fault in the third line", b"# a\n# b\n  @\n", 1, "t:3:3"),
     ("binary garbage", bytes(range(256)), 1, "t:1:1"),
-    ("a text that is too long", b" " * 65536 + b"\n", 1, "65536"),
-    ("a huge text", b"#" * 1000000, 1, "65536"),
-    ("the empty text", b"", 2, "t:"),
-    ("no main", b"fn f() { }\n", 2, "t:"),
-    ("a let that hides", main_of(b"let a: int = 1; let a: int = 2;"), 2, "t:1:"),
+    ("a text that is too long", b" " * 65536 + b"\n", 1, "t:1:65537: the text is longer than 65536 bytes"),
+    ("a huge text", b"#" * 1000000, 1, "the text is longer than 65536 bytes"),
+    ("a text that ends too soon", b"fn main() {\n", 1, "t:2:1: the text ends too soon"),
+    ("the empty text", b"", 2, "t:1:1: there is no function main"),
+    ("no main", b"fn f() { }\n", 2, "t:2:1: there is no function main"),
+    ("a let that hides", main_of(b"let a: int = 1; let a: int = 2;"), 2, "t:1:33: a rule of names"),
     ("a let in its own value", main_of(b"let a: int = a;"), 2, "t:1:"),
     ("an order of bools", main_of(b"if true < false { }"), 2, "t:1:"),
     ("an array without index", main_of(b"emit a;", b"var a: int[1];\n"), 2, "t:2:"),
@@ -233,8 +239,9 @@ def text_rows():
     yield row("run: trap 4", "run t --room 2", {"t": main_of(b"emit 1; emit 2; emit 3;")}, STOPPED, lines(answer=0, outcome="trap 4", fuel=6, log="1 2", arrays=""), "full")
     for command in ("run", "compare"):
         for title, numbers in (("too few", b"1 2 3 4 5"), ("too many", b"1 2 3 4 5 6 7"), ("none", b"")):
-            yield row("%s: answer 5, %s" % (command, title), command + " t --input n", {"t": ZONES, "n": numbers}, REFUSED, "answer: 5\n", "input block")
-        yield row(command + ": answer 5, not whole words", command + " t --block b", {"t": ZONES, "b": bytes(23)}, REFUSED, "answer: 5\n")
+            yield row("%s: answer 5, %s" % (command, title), command + " t --input n", {"t": ZONES, "n": numbers}, REFUSED, "answer: 5\n",
+                      "n: it has %d numbers" % len(numbers.split()))
+        yield row(command + ": answer 5, not whole words", command + " t --block b", {"t": ZONES, "b": bytes(23)}, REFUSED, "answer: 5\n", "b: it has 23 bytes")
         yield row(command + ": answer 1 before 5", command + " t --block b", {"t": b"@", "b": bytes(3)}, REFUSED, "answer: 1\n")
     for command in ("build t i", "compare t"):
         yield row(command + ": answer 3", command, {"t": LONG_IMAGE}, REFUSED, "answer: 3\n", "does not fit")
@@ -258,8 +265,8 @@ def example_rows():
 
 
 def run(program, folder, arguments, **more):
-    return subprocess.run([program, *arguments], cwd=folder, stdin=subprocess.DEVNULL, stdout=more.get("stdout", subprocess.PIPE),
-                          stderr=subprocess.PIPE, timeout=SECONDS)
+    more.setdefault("stdout", subprocess.PIPE)
+    return subprocess.run([program, *arguments], cwd=folder, stdin=subprocess.DEVNULL, stderr=subprocess.PIPE, timeout=SECONDS, **more)
 
 
 class Suite:
@@ -285,7 +292,7 @@ class Suite:
                        got.returncode != status and "status %d, not %d" % (got.returncode, status),
                        got.stdout.decode(errors="replace") != out and "wrote %r, not %r" % (got.stdout[:300], out[:300]),
                        *("standard error lacks %r: %r" % (s, error[:300]) for s in said if s not in error),
-                       sorted(os.listdir(folder)) != sorted(files) and "left other files")
+                       {name: open(os.path.join(folder, name), "rb").read() for name in os.listdir(folder)} != files and "left other files")
 
     def built(self, title, text, arrays, outcome, log, after):
         """An image that build writes runs as its text does."""
@@ -323,6 +330,7 @@ class Suite:
             ran = run(self.program, folder, ["run", "t", *options.split()])
             got = run(self.program, folder, ["compare", "t", *options.split()])
         own, both = ran.stdout.decode(), got.stdout.decode()
+        said = b"as far as the fuel went, the image logs the same" if b"out of fuel" in ran.stdout else b"the image does the same"
         of = {key: value.strip() for key, value in (line.split(":", 1) for line in both.splitlines())}
         image = lines(image_stop=of.get("image-stop", ""), image_steps=of.get("image-steps", ""), image_log=of.get("image-log", ""), image_arrays=of.get("image-arrays", ""), agree="yes")
         if of.get("outcome") == "out of fuel":
@@ -334,7 +342,7 @@ class Suite:
                    both != own + image and "wrote %r" % both[:300],
                    not same and "not the same: %r" % both[:300],
                    int(of.get("image-steps", 0)) > STEPS_FOR_FUEL * int(of.get("fuel", 0)) + STEPS_BESIDES and "too many steps",
-                   got.stderr != ran.stderr + b"doorlang: t: the image does the same\n" and "said %r" % got.stderr)
+                   got.stderr != ran.stderr + b"doorlang: t: " + said + b"\n" and "said %r" % got.stderr)
 
     def compares(self):
         for title, text, arrays, *_ in RUNS:
@@ -366,19 +374,24 @@ class Suite:
             got = run(self.program, folder, ["exec", "b", "--memory", "none"])
             self.judge("no memory of a refused run", got.returncode != REFUSED and "status %d" % got.returncode, os.path.exists(os.path.join(folder, "none")) and "it is there")
 
-    def full_output(self):
-        """Standard output that cannot be written is no success."""
+    def no_output(self):
+        """Standard output that cannot be written is no success: a full device, a reader that went away, none at all."""
+        gone, pipe = os.pipe()
+        os.close(gone)
         with tempfile.TemporaryDirectory() as folder, open("/dev/full", "wb") as full:
-            for name, content in (("i", EXIT), ("t", GCD)):
+            for name, content in (("i", EXIT), ("t", GCD), ("w", b"@")):
                 with open(os.path.join(folder, name), "wb") as f:
                     f.write(content)
-            for arguments in (["exec", "i"], ["run", "t"], ["compare", "t"], ["help"]):
-                got = run(self.program, folder, arguments, stdout=full)
-                self.judge("%s with a full output" % arguments[0], got.returncode != USAGE and "status %d" % got.returncode)
+            for arguments in ("exec i", "run t", "compare t", "check t", "help", "check w", "exec w"):
+                for title, more in (("a full output", {"stdout": full}), ("a reader that went away", {"stdout": pipe}), ("no output", {"preexec_fn": lambda: os.close(1)})):
+                    got = run(self.program, folder, arguments.split(), **more)
+                    self.judge("%s with %s" % (arguments, title), got.returncode != USAGE and "status %d" % got.returncode, not got.stderr and "said nothing")
+        os.close(pipe)
 
     def help(self):
-        got = run(self.program, ".", ["help"])
-        self.judge("help", got.returncode != 0 and "status %d" % got.returncode, not got.stdout.startswith(b"usage: doorlang check") and "no usage", got.stderr and "said something")
+        for word in ("help", "--help", "-h"):
+            got = run(self.program, ".", [word])
+            self.judge(word, got.returncode != 0 and "status %d" % got.returncode, not got.stdout.startswith(b"usage: doorlang check") and "no usage", got.stderr and "said something")
 
 
 def main(program):
@@ -389,7 +402,7 @@ def main(program):
     suite.memory()
     suite.builds()
     suite.compares()
-    suite.full_output()
+    suite.no_output()
     suite.help()
     print("%d passed, %d failed" % (suite.passed, suite.failed))
     return 1 if suite.failed else 0

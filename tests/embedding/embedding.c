@@ -270,7 +270,7 @@ static void both_ends(const char *text, const void *input, size_t input_size, co
     struct figures source;
     size_t size;
     uint32_t stop;
-    lent = usual;
+    lent = usual, lent.fuel = 1000000, lent.limit = DOORLANG_STEPS_FOR_FUEL * lent.fuel + DOORLANG_STEPS_BESIDES;
 
     if (interpret(text, input, input_size) != DOORLANG_ACCEPTED) {
         expect(0, what);
@@ -287,9 +287,36 @@ static void both_ends(const char *text, const void *input, size_t input_size, co
     size = told.size;
     memcpy(code, image, size);
     expect(emulate(code, size, input, input_size) == DOORLANG_ACCEPTED && told.stop == stop && told.number == source.number
-               && told.steps <= DOORLANG_STEPS_FOR_FUEL * (usual.fuel - source.fuel_left) + DOORLANG_STEPS_BESIDES && told.logged == source.logged
+               && told.steps <= DOORLANG_STEPS_FOR_FUEL * (lent.fuel - source.fuel_left) + DOORLANG_STEPS_BESIDES && told.logged == source.logged
                && memcmp(logs, source_log, sizeof logs) == 0 && memcmp(memory + DOORLANG_ARRAYS, source_arrays, input_size) == 0,
            what);
+}
+
+// A piece n times, another once, and a third n times, within a text.
+static const char *nested(const char *before, const char *opened, int n, const char *inside, const char *closed, const char *after) {
+    static char text[DOORLANG_TEXT + 1];
+    size_t size = (size_t)sprintf(text, "%s", before);
+    int i;
+    for (i = 0; i < n; i++) {
+        size += (size_t)sprintf(text + size, "%s", opened);
+    }
+    size += (size_t)sprintf(text + size, "%s", inside);
+    for (i = 0; i < n; i++) {
+        size += (size_t)sprintf(text + size, "%s", closed);
+    }
+    sprintf(text + size, "%s", after);
+    return text;
+}
+
+// The deepest and the longest texts, for which the stack that the header asks for is enough: tests/embedding/run gives no more.
+static void test_deep(void) {
+    both_ends(nested("fn f(n: int) { ", "while n > 0 { ", 29, "f(n - 1); return; ", "} ", "} fn main() { f(62); emit 1; }"), smoke, 0,
+              "deep: 64 activations, each call within 29 loops");
+    both_ends(nested("fn main() { emit ", "(", 31, "1", ")", "; }"), smoke, 0, "deep: 31 parentheses");
+    both_ends(nested("fn main() { let a: int = 1; emit ", "a * (a - ", 31, "a", ")", "; }"), smoke, 0, "deep: operands that wait");
+    both_ends(nested("fn main() { emit 1", "+1", 32700, "", "", "; }"), smoke, 0, "long: a chain of operators");
+    both_ends(nested("fn main() { let a: int = 0; ", "a=1;", 16370, "", "", "}"), smoke, 0, "long: a block of statements");
+    both_ends(nested("fn f(): bool { return true; } fn main() { if f()", "&&f()", 13000, "", "", "{ emit 1; } }"), smoke, 0, "long: a chain of conditions");
 }
 
 // The example of include/doorlang.h, which tests/embedding/run takes from there.
@@ -311,6 +338,7 @@ int main(void) {
     both_ends(text_z, smoke, sizeof smoke, "both ends: text Z");
     both_ends(division, smoke, 0, "both ends: trap 1");
     both_ends("fn main() { while true { emit 1; } }", smoke, 0, "both ends: trap 4");
+    test_deep();
     test_example();
 
     printf("%d passed, %d failed\n", passed, failed);

@@ -132,6 +132,10 @@ fresh = record { problem = nothing; at = 0; expected = unknown; files = 0 }
 abbrev pub wrong : ℕ → ℕ → Seen → Seen
 wrong p i s = record { problem = p; at = i; expected = s .expected; files = s .files }
 
+-- whether a word of this place is an option's name
+unfoldable pub isOption : ℕ → Bool
+isOption p = both (not (eqb p unknown)) (ltb p first)
+
 -- the value that was expected
 unfoldable pub valued : ℕ → Line → Line
 valued i l =
@@ -157,7 +161,7 @@ named c p i s g =
     (pick (eqb (getD g p 0) 0) (record { problem = nothing; at = i; expected = p; files = s .files }) (wrong twice i s))
     (wrong not-taken i s)
 
--- Argument i, which is of place p by its name.
+-- Argument i, which is of place p by its name. An option's name is no value: the option before it has none.
 unfoldable pub seeOf : Command → ℕ → ℕ → Line → Line
 seeOf c p i l =
     pick
@@ -165,7 +169,7 @@ seeOf c p i l =
     (pick
     (eqb (l .seen .expected) unknown)
     (pick (eqb p first) (filed c i l) (line (named c p i (l .seen) (l .given)) (l .given)))
-    (valued i l))
+    (pick (isOption p) (line (wrong no-value (l .seen .at) (l .seen)) (l .given)) (valued i l)))
     l
 
 -- All of them, from argument i on.

@@ -3,7 +3,7 @@ ghost use mathlib.Core.Path.{_≡_};
 ghost use Prim.Native.Nat.{_+_, _<_, _≤_, _^_};
 ghost use lib.ListN.{length, getD, set};
 ghost use Rattle.language.specs.Tokens.{same, starts, is};
-ghost use Rattle.console.specs.Arguments.{commandOf, placeOf, runTakes, execTakes, takesOf, filesOf, line, wrong as wrongOf, valued, filed, named, seeOf, ended, said};
+ghost use Rattle.console.specs.Arguments.{commandOf, placeOf, runTakes, execTakes, takesOf, filesOf, line, wrong as wrongOf, isOption, valued, filed, named, seeOf, ended, said};
 
 pub enum Command {
     Help,
@@ -266,7 +266,17 @@ fn value(i: usize, s: Seen, given: &mut [usize]) -> Seen
     }
 }
 
-// Argument i, which is of this place by its name.
+// Whether a word of this place is an option's name.
+fn is_option(place: usize) -> bool
+    ensures { λ r. ⌜ r ≡ isOption place ⌝ }
+{
+    if place == UNKNOWN {
+        return false;
+    }
+    place < FIRST
+}
+
+// Argument i, which is of this place by its name. An option's name is no value: the option before it has none.
 fn see(command: Command, place: usize, i: usize, s: Seen, given: &mut [usize]) -> Seen
     ensures { λ r. ⌜ line r (now (given .exit)) ≡ seeOf command place i (line s (now (given .entry))) ⌝ }
 {
@@ -274,6 +284,9 @@ fn see(command: Command, place: usize, i: usize, s: Seen, given: &mut [usize]) -
         return s;
     }
     if s.expected != UNKNOWN {
+        if is_option(place) {
+            return wrong(NO_VALUE, s.at, s);
+        }
         return value(i, s, given);
     }
     if place == FIRST {

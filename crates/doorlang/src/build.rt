@@ -37,12 +37,26 @@ fn compile(given: &[usize], text: &[u8]) -> u32 {
     let mut image = rooms::image_room();
     let c = image_of(text, &mut image);
     match c {
-        Compiled::Refused(number, offset) => texts::refused(given, text, number, offset),
+        Compiled::Refused(number, offset) => texts::refused(given, text, number, offset, 0),
         Compiled::Image(n) => built(given, n, &image),
     }
 }
 
+// Whether the image would be written over its text, by their names.
+fn over_itself(given: &[usize]) -> bool {
+    let i = arguments::given_for(given, arguments::SECOND);
+    if files::is_same(arguments::given_for(given, arguments::FIRST), i) {
+        about(i);
+        tell(b"the image would replace its text\n");
+        return true;
+    }
+    false
+}
+
 pub fn build(given: &[usize]) -> u32 {
+    if over_itself(given) {
+        return output::BAD_USAGE;
+    }
     let mut text = rooms::text_room();
     let t = files::read_file(arguments::given_for(given, arguments::FIRST), &mut text);
     if t.failed {

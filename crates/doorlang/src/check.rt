@@ -14,7 +14,7 @@ fn answer(given: &[usize], text: &[u8]) -> u32 {
     let mut core = rooms::core_room();
     let a = toolchain::check::check(text, &mut tokens, &mut tree, &mut starts, &mut core);
     if a.number != 0 {
-        return texts::refused(given, text, a.number, a.place);
+        return texts::refused(given, text, a.number, a.place, 0);
     }
     if output::line(b"answer: ", 0) {
         about(arguments::given_for(given, arguments::FIRST));

@@ -20,8 +20,8 @@ use crate::texts;
 use crate::values;
 use console::arguments;
 use emulator::run::Ended;
+use interpreter::Outcome;
 use interpreter::Ran;
-use toolchain::Outcome;
 use toolchain::compile::Compiled;
 use toolchain::interpret::Interpreted;
 
@@ -79,12 +79,23 @@ fn agree_line(agree: bool) -> bool {
     }
 }
 
-fn tell_agreement(given: &[usize], agree: bool) {
+// What the image did, beside a run with this outcome: where the fuel ended first, they are compared as far as the run came.
+fn tell_agreement(given: &[usize], o: Outcome, agree: bool) {
     about(arguments::given_for(given, arguments::FIRST));
-    if agree {
-        tell(b"the image does the same\n");
-    } else {
+    if !agree {
         tell(b"the image does something else\n");
+        return;
+    }
+    match o {
+        Outcome::OutOfFuel => {
+            tell(b"as far as the fuel went, the image logs the same\n");
+        }
+        Outcome::Finished => {
+            tell(b"the image does the same\n");
+        }
+        Outcome::Trapped(_) => {
+            tell(b"the image does the same\n");
+        }
     }
 }
 
@@ -111,7 +122,7 @@ fn show(
     if agree_line(agree) {
         let o = r.outcome;
         run::tell_outcome(given, o);
-        tell_agreement(given, agree);
+        tell_agreement(given, o, agree);
         return if agree {
             run::status_of(o)
         } else {
@@ -145,8 +156,8 @@ fn emulate(
         limit_for(run::used(fuel, r.fuel)),
     );
     match o {
-        Outcome::Refused(n) => exec::refused(given, n),
-        Outcome::Ran(e) => show(
+        toolchain::Outcome::Refused(n) => exec::refused(given, n),
+        toolchain::Outcome::Ran(e) => show(
             given,
             r,
             fuel,
@@ -178,7 +189,7 @@ fn interpret(
     let said = a.said;
     let n = a.size;
     match said {
-        Interpreted::Refused(number, offset) => texts::refused(given, text, number, offset),
+        Interpreted::Refused(number, offset) => texts::refused(given, text, number, offset, n),
         Interpreted::Ran(r) => emulate(given, image, &block[..n], room, fuel, r, &arrays, &log),
     }
 }
@@ -190,7 +201,7 @@ fn go(given: &[usize], text: &[u8], block: &[u8], size: usize, room: usize, fuel
     let mut image = rooms::image_room();
     let c = build::image_of(text, &mut image);
     match c {
-        Compiled::Refused(number, offset) => texts::refused(given, text, number, offset),
+        Compiled::Refused(number, offset) => texts::refused(given, text, number, offset, 0),
         Compiled::Image(n) => {
             let k = texts::at_most(n, image.len());
             interpret(given, text, &image[..k], block, size, room, fuel)

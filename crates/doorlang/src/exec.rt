@@ -136,9 +136,19 @@ fn ran(
     show(given, e, size, memory, registers, log)
 }
 
+// The argument that names what a refusal is about: the input block, or the image.
+fn refused_argument(given: &[usize], n: u32) -> usize {
+    if n == 5 {
+        return files::block_argument(given);
+    }
+    arguments::given_for(given, arguments::FIRST)
+}
+
 pub fn refused(given: &[usize], n: u32) -> u32 {
-    output::line(b"answer: ", n as u64);
-    about(arguments::given_for(given, arguments::FIRST));
+    if !output::line(b"answer: ", n as u64) {
+        return output::unwritten();
+    }
+    about(refused_argument(given, n));
     tell_refusal(n);
     output::REFUSED
 }
@@ -175,7 +185,29 @@ fn load(given: &[usize], room: usize, limit: u64) -> u32 {
     run(given, &code[..n], &block[..k], room, limit)
 }
 
+// Whether the memory would be written over a file that is read, by their names.
+fn over_itself(given: &[usize]) -> bool {
+    let i = arguments::given_for(given, arguments::MEMORY);
+    if i == 0 {
+        return false;
+    }
+    let mut over = files::is_same(arguments::given_for(given, arguments::FIRST), i);
+    if files::has_block(given) {
+        if files::is_same(files::block_argument(given), i) {
+            over = true;
+        }
+    }
+    if over {
+        about(i);
+        tell(b"the memory would replace a file that is read\n");
+    }
+    over
+}
+
 pub fn exec(given: &[usize]) -> u32 {
+    if over_itself(given) {
+        return output::BAD_USAGE;
+    }
     let v = values::values_of(given, arguments::LIMIT, values::LIMIT);
     if v.failed {
         return output::BAD_USAGE;

@@ -138,12 +138,27 @@ pub fn read_numbers(i: usize, block: &mut [u8]) -> Got
     }
 }
 
+// The argument that names the input block's file; 0 for none.
+pub fn block_argument(given: &[usize]) -> usize {
+    let text = arguments::given_for(given, arguments::INPUT);
+    if text != 0 {
+        return text;
+    }
+    arguments::given_for(given, arguments::BLOCK)
+}
+
 // Whether an option gives an input block.
 pub fn has_block(given: &[usize]) -> bool {
-    if arguments::given_for(given, arguments::INPUT) != 0 {
-        return true;
-    }
-    arguments::given_for(given, arguments::BLOCK) != 0
+    block_argument(given) != 0
+}
+
+// Whether two arguments name a file in the same way.
+pub fn is_same(i: usize, j: usize) -> bool {
+    let mut one = io::buffer();
+    let mut other = io::buffer();
+    let n = os::arg(i, &mut one);
+    let k = os::arg(j, &mut other);
+    arguments::is_spelt(&one[..n], &other[..k])
 }
 
 // The input block that --input or --block gives; with neither an empty one.

@@ -28,16 +28,23 @@ pub fn help() -> u32 {
     output::say(b"exec     runs an image on the panel processor\n");
     output::say(b"compare  runs a rule program and its image, and says whether they agree\n");
     output::say(b"help     prints this\n\n");
-    output::say(b"--input FILE   the arrays as text: decimal numbers between blanks\n");
-    output::say(b"--block FILE   the arrays as raw words, lowest byte first\n");
+    output::say(
+        b"--input FILE   the arrays as text: a decimal number for each element, in the order of declaration, between blanks\n",
+    );
+    output::say(
+        b"--block FILE   the arrays as raw words, lowest byte first (with neither: zeros, and for exec nothing)\n",
+    );
     output::say(b"--fuel N       the fuel of a run (1000000)\n");
     output::say(b"--limit N      the most steps (100000000)\n");
     output::say(b"--room N       the most numbers in the log (1000, at most 65536)\n");
     output::say(b"--memory FILE  writes the 2 MiB of memory after the run\n\n");
+    output::say(
+        b"Answers: 0 accepted, or run; 1 the text cannot be read; 2 it breaks a rule; 3 its image is too long; 4 this is no image; 5 the arrays do not fit.\n",
+    );
     if output::say(
-        b"Exit status: 0 accepted, finished or exit; 1 refused; 2 trap, fault, out of fuel, limit, or an image that does something else; 64 bad usage, or a file that cannot be read or written.\n",
+        b"Exit status: 0 accepted, finished or exit; 1 refused; 2 trap, fault, out of fuel, limit, or an image that does something else; 64 bad usage, or a file that cannot be read or written; 70 the program could not be built or run.\n",
     ) {
         return output::DONE;
     }
-    output::BAD_USAGE
+    output::unwritten()
 }

@@ -44,7 +44,7 @@ fn wrong(s: Seen) -> u32 {
         arguments::NO_VALUE => bad_usage(b"an option has no value", at),
         arguments::TOO_MANY_FILES => bad_usage(b"a file more than this command takes", at),
         arguments::NO_FILE => bad_usage(b"the command lacks a file", 1),
-        _ => bad_usage(b"--input and --block exclude each other", at),
+        _ => bad_usage(b"--input and --block exclude each other", 0),
     }
 }
 

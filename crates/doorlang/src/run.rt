@@ -159,9 +159,10 @@ fn go(given: &[usize], text: &[u8], block: &[u8], size: usize, room: usize, fuel
     let mut log = rooms::log_room();
     let a = answer_of(given, text, block, size, room, fuel, &mut arrays, &mut log);
     let said = a.said;
+    let size = a.size;
     match said {
-        Interpreted::Refused(number, offset) => texts::refused(given, text, number, offset),
-        Interpreted::Ran(r) => show(given, r, fuel, a.size, &arrays, &log),
+        Interpreted::Refused(number, offset) => texts::refused(given, text, number, offset, size),
+        Interpreted::Ran(r) => show(given, r, fuel, size, &arrays, &log),
     }
 }
 

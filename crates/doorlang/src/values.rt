@@ -1,4 +1,5 @@
 // The numbers that options give.
+use crate::help;
 use crate::output::tell;
 use crate::output::tell_argument;
 use crate::output::tell_number;
@@ -66,7 +67,8 @@ fn value_of(given: &[usize], place: usize, usual: u64, most: u64) -> Value {
         }
         Number::NoNumber => {
             tell_option(i);
-            tell(b": this is no decimal number\n");
+            tell(b": this is no decimal number\n\n");
+            help::usage(libc::STDERR_FILENO);
             Value {
                 failed: true,
                 number: 0,
