@@ -11,7 +11,7 @@ use types.Run.{OneOf, miss}
 use denote.Enum.Declared.{tagOf}
 use Rattle.language.specs.Core.{Array}
 use Rattle.language.specs.Meaning.{World, Result, Act, bind, read, fetch, index-outside}
-use Rattle.flat.specs.Items.{Kind, element, and, or, unknown, malformed, top, Onward, push, most-operands, step}
+use Rattle.flat.specs.Items.{Kind, number, element, and, or, unknown, malformed, top, Onward, push, most-operands, step}
 use Rattle.flat.specs.Words.{kinds, kindOf, unaries, stricts}
 use Rattle.interpreter.specs.declared.Out.{Out}
 use Rattle.interpreter.specs.declared.Out.the-variants.{Goes, Trapped, OutOfFuel}
@@ -113,13 +113,13 @@ module _ {work arrays : List ℕ} {c h : ℕ} (f : Frame c h work) where
         fits = p .fits;
       }
 
-  pub move-number : (a b : ℕ) {k h′ : ℕ} {o : Out} {work′ : List ℕ} → k ≡ 0 → Pushes work c h a o h′ work′ → Moves work c h arrays (kindOf k a b) o 0 h′ work′
-  unfolding kindOf step
-  move-number a b e p = gone 0 a h (omega arith) p (λ invoke k fuel log. rw e)
+  pub move-number : (v : ℕ) {h′ : ℕ} {o : Out} {work′ : List ℕ} → Pushes work c h v o h′ work′ → Moves work c h arrays (number v) o 0 h′ work′
+  unfolding step
+  move-number v p = gone 0 v h (omega arith) p (λ invoke k fuel log. refl)
 
-  pub move-local : (a b : ℕ) {k v h′ : ℕ} {o : Out} {work′ : List ℕ} → k ≡ 1 → v ≡ getD (take c work) a 0 → Pushes work c h v o h′ work′ → Moves work c h arrays (kindOf k a b) o 0 h′ work′
+  pub move-local : (a b : ℕ) {k v skip h′ : ℕ} {o : Out} {work′ : List ℕ} → k ≡ 1 → v ≡ getD (take c work) a 0 → Moves work c h arrays (number v) o skip h′ work′ → Moves work c h arrays (kindOf k a b) o skip h′ work′
   unfolding kindOf step fetch bind
-  move-local a b {v = v} e g p = gone 0 v h (omega arith) p (λ invoke k fuel log. rw (e, g))
+  move-local a b e g m = record { same = λ invoke k fuel log. rw (e, ← g) (m .same invoke k fuel log); fits = m .fits }
 
   pub move-element : (a : Array) (m : ℕ) {i v h′ : ℕ} {o : Out} {work′ : List ℕ} → i ≡ top (operandsAt work c h) → i < a .size → v ≡ getD arrays (a .offset + i) 0 → m ≡ h - 1 →
       Pushes work c m v o h′ work′ → Moves work c h arrays (element a) o 0 h′ work′

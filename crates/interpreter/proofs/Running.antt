@@ -21,7 +21,7 @@ use Rattle.interpreter.specs.declared.Out.{Out}
 use Rattle.interpreter.specs.declared.Out.the-variants.{Goes, Trapped, OutOfFuel}
 use Rattle.interpreter.specs.declared.Flow as D
 use Rattle.interpreter.specs.declared.Flow.the-variants as F
-use Rattle.interpreter.specs.Post.{operandsAt, valueOf, onwards, Pushes, Moves, invokeOf, flows, haltedOf, resultOf, Steps, Enters, Calls, Scans, Blocks, Execs, Chooses, Stores, finishes, Finishes, Heads}
+use Rattle.interpreter.specs.Post.{operandsAt, valueOf, onwards, Pushes, Moves, invokeOf, flows, haltedOf, resultOf, Steps, Enters, Calls, Scans, Blocks, Execs, first-block, second-block, Stores, finishes, Finishes, Heads}
 use Rattle.interpreter.proofs.Out
 use Rattle.interpreter.proofs.Flow as FlowProofs
 use Rattle.interpreter.proofs.Moving.{Stops, stop-on, drop-operands, length-operands, operands-same}
@@ -123,7 +123,7 @@ unfolding begins
 dry zero f ls l xs h = absurd (omega arith)
 dry (suc c) f ls l xs h = dry-last c f ls l xs (omega arith) (λ q. dry c f ls l xs q)
 
-item-is : (ws : List ℕ) {k c a b : ℕ} → k ≡ word ws 0 → c ≡ word ws 1 → a ≡ word ws 2 → b ≡ word ws 3 → itemOf ws ≡ item c (kindOf k a b)
+pub item-is : (ws : List ℕ) {k c a b : ℕ} → k ≡ word ws 0 → c ≡ word ws 1 → a ≡ word ws 2 → b ≡ word ws 3 → itemOf ws ≡ item c (kindOf k a b)
 unfolding itemOf
 item-is ws x y z u = rw (x, y, z, u)
 
@@ -131,15 +131,14 @@ onwards-as : (o : Out) (w : World) {a b : Result ℕ} → a ≡ b → onwards o 
 onwards-as o w e = ap (onwards o w) e
 
 -- one item of a scan, from what its words are
-module _ (t : List ℕ) (room left n : ℕ) (ws : List ℕ) (c h : ℕ) (work : List ℕ) (f : ℕ) (l xs : List ℕ) (pos : 0 < n) {k ch a b : ℕ}
-    (ek : k ≡ word ws 0) (ec : ch ≡ word ws 1) (ea : a ≡ word ws 2) (eb : b ≡ word ws 3) where
+module _ (t : List ℕ) (room left n : ℕ) (ws : List ℕ) (c h : ℕ) (work : List ℕ) (f : ℕ) (l xs : List ℕ) (pos : 0 < n) (k ch a b : ℕ) (ei : itemOf ws ≡ item ch (kindOf k a b)) where
   abbrev on : Onward
   on = scan (invokeOf t room left) (itemsOf (n - 1) (drop item-words ws))
 
   whole : (r : Result ℕ) → bind (begins ch (take c work) (wd f l xs)) (λ _. step (invokeOf t room left) (kindOf k a b) (operandsAt work c h) on) ≡ r →
       scan (invokeOf t room left) (itemsOf n ws) 0 (operandsAt work c h) (take c work) (wd f l xs) ≡ r
   unfolding scan
-  whole r q = rw (items-one n ws pos, item-is ws ek ec ea eb) q
+  whole r q = rw (items-one n ws pos, ei) q
 
   paid : (r : Result ℕ) → ch ≤ f → step (invokeOf t room left) (kindOf k a b) (operandsAt work c h) on (take c work) (wd (f - ch) l xs) ≡ r →
       scan (invokeOf t room left) (itemsOf n ws) 0 (operandsAt work c h) (take c work) (wd f l xs) ≡ r
@@ -161,12 +160,13 @@ module _ (t : List ℕ) (room left n : ℕ) (ws : List ℕ) (c h : ℕ) (work : 
         fewer = omega arith;
       }
 
-  pub one-enters : {o : Out} {h′ : ℕ} {work′ ws′ : List ℕ} {w′ : World} → ch ≤ f → k ≡ 3 → Enters t room left a b c h work (wd (f - ch) l xs) o h′ work′ w′ → ws′ ≡ drop item-words ws →
-      Steps t room left n ws c h work (wd f l xs) o (n - 1) ws′ h′ work′ w′
+  pub one-enters : {o : Out} {h′ m : ℕ} {work′ ws′ : List ℕ} {w′ : World} → ch ≤ f → k ≡ 3 → Enters t room left a b c h work (wd (f - ch) l xs) o h′ work′ w′ → m ≡ n - 1 → ws′ ≡ drop item-words ws →
+      Steps t room left n ws c h work (wd f l xs) o m ws′ h′ work′ w′
   unfolding kindOf
-  one-enters {o} {h′} {work′} {ws′} {w′} q z x e =
+  one-enters {o} {h′} {m} {work′} {ws′} {w′} q z x d e =
       record {
-        same = paid _ q (rw z (x .same on) ∙ onwards-as o w′ (ap (λ (us : List ℕ). scan (invokeOf t room left) (itemsOf (n - 1) us) 0 (operandsAt work′ c h′) (take c work′) w′) (sym e)));
+        same = paid _ q (rw z (x .same on) ∙ onwards-as o w′ (ap (λ (us : List ℕ). scan (invokeOf t room left) (itemsOf (n - 1) us) 0 (operandsAt work′ c h′) (take c work′) w′) (sym e) ∙
+            ap (λ (j : ℕ). scan (invokeOf t room left) (itemsOf j ws′) 0 (operandsAt work′ c h′) (take c work′) w′) (sym d)));
         fits = x .fits;
         fewer = omega arith;
       }
@@ -276,7 +276,28 @@ module _ (t : List ℕ) (room left f n c h : ℕ) (work : List ℕ) (w : World) 
           fits = p .fits;
         }
 
+-- What stands at a place
+
+pub items-at : {n m : ℕ} {es us : List ℕ} → n ≡ m → es ≡ us → itemsOf n es ≡ itemsOf m us
+items-at e d = rw (e, d)
+
+pub block-at : (depth : ℕ) {n m : ℕ} {es us : List ℕ} → n ≡ m → es ≡ us → blockOf depth n es ≡ blockOf depth m us
+block-at depth e d = rw (e, d)
+
+pub chosen-second : (depth : ℕ) (ws : List ℕ) {v n k : ℕ} {us vs : List ℕ} → v ≡ 0 → n ≡ word ws 6 → k ≡ word ws 1 → vs ≡ drop (first-end ws) ws → us ≡ drop k vs →
+    blockOf depth n us ≡ branch v (first-block depth ws) (second-block depth ws)
+chosen-second depth ws z en ek ef d = rw (z, en, d, ef, ek, drop-drop (word ws 1) (first-end ws) ws)
+
+pub chosen-first : (v : ℕ) {x : S.Block} (p q : S.Block) → (v ≡ 0 → ⊥) → x ≡ p → x ≡ branch v p q
+chosen-first zero p q z e = absurd (z refl)
+chosen-first (suc v) p q z e = e
+
 -- Statements
+
+-- what is done with a choice is chosen alike
+branch-on : (v : ℕ) (f : S.Block → Act Flow) (p q : S.Block) (ls : List ℕ) (w : World) → branch v (f p) (f q) ls w ≡ f (branch v p q) ls w
+branch-on zero f p q ls w = refl
+branch-on (suc v) f p q ls w = refl
 
 module _ (t : List ℕ) (room left depth : ℕ) (ws : List ℕ) where
   abbrev run : ℕ → Act Flow
@@ -315,10 +336,10 @@ module _ (t : List ℕ) (room left depth : ℕ) (ws : List ℕ) where
   unfolding fexec statementOf
   stmt-unknown {k} ls w e z = is-kind k (sym e) (rw (List·getD-eq-default (statements (blockOf depth) ws) S.unknown z))
 
-  module _ {k n : ℕ} {es ls ls′ : List ℕ} {w w′ : World} {o : Out} (ek : k ≡ word ws 0) (l : k ≤ 7) (a : k ≡ 3 → ⊥) (b : k ≡ 4 → ⊥) (en : n ≡ word ws 3) (ee : es ≡ drop header-words ws)
+  module _ {k n : ℕ} {es ls ls′ : List ℕ} {w w′ : World} {o : Out} (ek : k ≡ word ws 0) (l : k ≤ 7) (a : k ≡ 3 → ⊥) (b : k ≡ 4 → ⊥) (ee : itemsOf n es ≡ first ws)
       (x : Scans t room left n es ls w o ls′ w′) where
     scanned : val ls w ≡ valueOf o ls′ w′
-    scanned = rw (← en, ← ee) (x .same)
+    scanned = rw (← ee) (x .same)
 
     pub valued-stop : (us : List ℕ) {fl : D.Flow} → Stops o → fl ≡ haltedOf o → Execs t room left depth ws ls w fl us w′
     valued-stop us z e = is-kind k (sym ek) (valued-kind k l a b ls w ∙ (ap (λ (r : Result ℕ). bind r (rest k)) scanned ∙ (halted-on o ls′ us w′ (rest k) z ∙ ap (λ (u : D.Flow). flows u us w′) (sym e))))
@@ -330,27 +351,19 @@ module _ (t : List ℕ) (room left depth : ℕ) (ws : List ℕ) where
     pub valued-store : {v : ℕ} {fl : D.Flow} {us : List ℕ} {w″ : World} → o ≡ Goes v → k ≡ 1 → Stores t room left ws v ls′ w′ fl us w″ → Execs t room left depth ws ls w fl us w″
     valued-store y z s = valued-go y (rw (eq-eqb k 1 z) (s .same))
 
-    pub valued-choose : {v : ℕ} {fl : D.Flow} {us : List ℕ} {w″ : World} → o ≡ Goes v → (k ≡ 1 → ⊥) → k ≡ 2 → Chooses t room left depth ws v ls′ w′ fl us w″ → Execs t room left depth ws ls w fl us w″
-    valued-choose y p z s = valued-go y (rw (ne-eqb k 1 p, eq-eqb k 2 z) (s .same))
+    pub valued-choose : {v s : ℕ} {qs : List ℕ} {fl : D.Flow} {us : List ℕ} {w″ : World} → o ≡ Goes v → (k ≡ 1 → ⊥) → k ≡ 2 → blockOf depth s qs ≡ branch v (first-block depth ws) (second-block depth ws) →
+        Blocks t room left depth s qs ls′ w′ fl us w″ → Execs t room left depth ws ls w fl us w″
+    valued-choose {v} y p z e r =
+        valued-go y (rw (ne-eqb k 1 p, eq-eqb k 2 z) (branch-on v (fblock room (invokeOf t room left)) (first-block depth ws) (second-block depth ws) ls′ w′ ∙
+        (ap (λ (q : S.Block). fblock room (invokeOf t room left) q ls′ w′) (sym e) ∙ r .same)))
 
     pub valued-finish : {v : ℕ} {fl : D.Flow} {us : List ℕ} {w″ : World} → o ≡ Goes v → (k ≡ 1 → ⊥) → (k ≡ 2 → ⊥) → Finishes room k ws v ls′ w′ fl us w″ → Execs t room left depth ws ls w fl us w″
     valued-finish y p q s = valued-go y (rw (ne-eqb k 1 p, ne-eqb k 2 q) (s .same))
 
-  -- the two blocks of `if`
-  pub choose-no : {v n a s : ℕ} {qs ls ls′ : List ℕ} {w w′ : World} {fl : D.Flow} → v ≡ 0 → n ≡ word ws 3 → a ≡ word ws 1 → s ≡ word ws 6 → qs ≡ drop (header-words + item-words * n + a) ws →
-      Blocks t room left depth s qs ls w fl ls′ w′ → Chooses t room left depth ws v ls w fl ls′ w′
-  choose-no z en ea es e x = record { same = rw (z, ← en, ← ea, ← es, ← e) (x .same) }
-
-  pub choose-so : {v n s : ℕ} {qs ls ls′ : List ℕ} {w w′ : World} {fl : D.Flow} → (v ≡ 0 → ⊥) → n ≡ word ws 3 → s ≡ word ws 5 → qs ≡ drop (header-words + item-words * n) ws →
-      Blocks t room left depth s qs ls w fl ls′ w′ → Chooses t room left depth ws v ls w fl ls′ w′
-  choose-so {v = zero} z en es e x = absurd (z refl)
-  choose-so {v = suc v} z en es e x = record { same = rw (← en, ← es, ← e) (x .same) }
-
   -- the second expression of a store
-  module _ {n m : ℕ} {es ls ls′ : List ℕ} {w : World} {f : ℕ} {l xs : List ℕ} {o : Out} (en : n ≡ word ws 3) (em : m ≡ word ws 4) (ee : es ≡ drop (header-words + item-words * n) ws)
-      (x : Scans t room left m es ls w o ls′ (wd f l xs)) where
+  module _ {m : ℕ} {es ls ls′ : List ℕ} {w : World} {f : ℕ} {l xs : List ℕ} {o : Out} (ee : itemsOf m es ≡ second ws) (x : Scans t room left m es ls w o ls′ (wd f l xs)) where
     stored : evaluate (invokeOf t room left) (second ws) ls w ≡ valueOf o ls′ (wd f l xs)
-    stored = rw (← en, ← em, ← ee) (x .same)
+    stored = rw (← ee) (x .same)
 
     pub store-stop : (us : List ℕ) {i : ℕ} {fl : D.Flow} → Stops o → fl ≡ haltedOf o → Stores t room left ws i ls w fl us (wd f l xs)
     store-stop us z e = record { same = rw (stored, e) (halted-on o ls′ us (wd f l xs) _ z) }
@@ -365,10 +378,10 @@ module _ (t : List ℕ) (room left depth : ℕ) (ws : List ℕ) where
 
 -- The rounds of `while`
 
-rounds-step : (g : ℕ) (T : Act ℕ) (B : Act Flow) (ls : List ℕ) (w : World) → (g ≡ 0 → ⊥) →
+rounds-step : (g : ℕ) (T : Act ℕ) (B : Act Flow) (ls : List ℕ) (w : World) → 0 < g →
     rounds g T B ls w ≡ bind (T ls w) (λ v. branch v (λ ls₁ w₁. bind (B ls₁ w₁) (λ fl. followed fl (rounds (g - 1) T B))) (value next))
 unfolding rounds
-rounds-step zero T B ls w h = absurd (h refl)
+rounds-step zero T B ls w h = absurd (omega arith)
 rounds-step (suc g) T B ls w h =
     ap (λ (j : ℕ). bind (T ls w) (λ v. branch v (λ ls₁ w₁. bind (B ls₁ w₁) (λ fl. followed fl (rounds j T B))) (value next))) {x = g} {y = suc g - 1} (omega arith)
 
@@ -380,8 +393,7 @@ pub rounding-start : (t : List ℕ) (room left depth n : ℕ) (es : List ℕ) (s
 rounding-start t room left depth n es s qs ls w = record { rest = refl }
 
 module _ (ws : List ℕ) {t : List ℕ} {room left depth n : ℕ} {es : List ℕ} {s : ℕ} {qs ls₀ : List ℕ} {w₀ : World} {g : ℕ} {ls : List ℕ} {w : World}
-    (z : word ws 0 ≡ 3) (en : n ≡ word ws 3) (ee : es ≡ drop header-words ws) (ec : s ≡ word ws 5) (eq : qs ≡ drop (header-words + item-words * n) ws)
-    (i : Rounding t room left depth n es s qs ls₀ w₀ g ls w) where
+    (z : word ws 0 ≡ 3) (ee : itemsOf n es ≡ first ws) (eb : blockOf depth s qs ≡ first-block depth ws) (i : Rounding t room left depth n es s qs ls₀ w₀ g ls w) where
   abbrev T : Act ℕ
   T = evaluate (invokeOf t room left) (itemsOf n es)
 
@@ -390,13 +402,13 @@ module _ (ws : List ℕ) {t : List ℕ} {room left depth n : ℕ} {es : List ℕ
 
   whole-loop : {fl : D.Flow} {ls′ : List ℕ} {w′ : World} → rounds g T B ls w ≡ flows fl ls′ w′ → Execs t room left depth ws ls₀ w₀ fl ls′ w′
   unfolding fexec statementOf
-  whole-loop r = is-kind t room left depth ws 3 z (rw (← en, ← ee, ← eq, ← ec) (i .rest ∙ r))
+  whole-loop r = is-kind t room left depth ws 3 z (rw (← ee, ← eb) (i .rest ∙ r))
 
-  pub loop-dry : (us : List ℕ) → g ≡ 0 → Execs t room left depth ws ls₀ w₀ F.OutOfFuel us w
+  pub loop-dry : (us : List ℕ) → g ≤ 0 → Execs t room left depth ws ls₀ w₀ F.OutOfFuel us w
   unfolding rounds
-  loop-dry us k = whole-loop (rw k)
+  loop-dry us k = whole-loop (rw (zero-of g k))
 
-  module _ (nz : g ≡ 0 → ⊥) {o : Out} {ls₁ : List ℕ} {w₁ : World} (x : Scans t room left n es ls w o ls₁ w₁) where
+  module _ (nz : 0 < g) {o : Out} {ls₁ : List ℕ} {w₁ : World} (x : Scans t room left n es ls w o ls₁ w₁) where
     one-round : rounds g T B ls w ≡ bind (valueOf o ls₁ w₁) (λ v. branch v (λ ls₂ w₂. bind (B ls₂ w₂) (λ fl. followed fl (rounds (g - 1) T B))) (value next))
     one-round = rounds-step g T B ls w nz ∙ ap (λ (r : Result ℕ). bind r (λ v. branch v (λ ls₂ w₂. bind (B ls₂ w₂) (λ fl. followed fl (rounds (g - 1) T B))) (value next))) (x .same)
 
@@ -454,7 +466,7 @@ module _ {t : List ℕ} {room left depth n : ℕ} {ws₀ ls₀ : List ℕ} {w₀
   unfolding sequenceOf fblock
   block-end z = record { same = i .rest ∙ rw (zero-of m z) }
 
-  pub block-dry : (us : List ℕ) → 0 < m → f ≡ 0 → Blocks t room left depth n ws₀ ls₀ w₀ F.OutOfFuel us (wd 0 l xs)
+  pub block-dry : (us : List ℕ) → 0 < m → f ≡ 0 → Blocks t room left depth n ws₀ ls₀ w₀ F.OutOfFuel us (wd f l xs)
   unfolding bind
   block-dry us z k = record { same = i .rest ∙ (sequence-step m (stmtAt (depth - 1)) ws room (invokeOf t room left) ls (wd f l xs) z ∙ rw k) }
 
@@ -469,9 +481,9 @@ module _ {t : List ℕ} {room left depth n : ℕ} {ws₀ ls₀ : List ℕ} {w₀
     pub block-left : Leaves fl → Blocks t room left depth n ws₀ ls₀ w₀ fl ls′ w′
     block-left y = record { same = i .rest ∙ (stmt-done ∙ left-on fl ls′ w′ _ y) }
 
-    pub block-next : {r m′ : ℕ} {ws′ : List ℕ} → fl ≡ F.Next → r ≡ word ws 7 → ws′ ≡ drop (header-words + r) ws → m′ ≡ m - 1 → Blocking t room left depth n ws₀ ls₀ w₀ m′ ws′ ls′ w′
+    pub block-next : {m′ : ℕ} {ws′ : List ℕ} → fl ≡ F.Next → m′ ≡ m - 1 → ws′ ≡ drop (header-words + word ws 7) ws → Blocking t room left depth n ws₀ ls₀ w₀ m′ ws′ ls′ w′
     unfolding bind
-    block-next y er e em = record { rest = i .rest ∙ (stmt-done ∙ rw (y, em, e, er)) }
+    block-next y em e = record { rest = i .rest ∙ (stmt-done ∙ rw (y, em, e)) }
 
 -- lengths of what is lent
 pub record Lens (work₀ work arrays₀ arrays log₀ log : List ℕ) : Type 0 where

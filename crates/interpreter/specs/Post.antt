@@ -7,9 +7,9 @@ use lib.Dec.{eqb}
 use lib.ListN.{length, getD, take, drop}
 use Rattle.word.specs.Choice.{pick}
 use Rattle.language.specs.Rules.{most-locals}
-use Rattle.language.specs.Meaning.{World, Result, goes, stops, trapped, outOfFuel, Act, bind, _>>_, value, branch, write, assign, append, Flow, next, returned, Outcome, finished, stopped, most-activations}
+use Rattle.language.specs.Meaning.{World, Result, goes, stops, trapped, outOfFuel, Act, bind, _>>_, value, write, assign, append, Flow, next, returned, Outcome, finished, stopped, most-activations}
 use Rattle.flat.specs.Items.{Kind, call, unknown, top, Onward, push, most-operands, step, scan, evaluate}
-use Rattle.flat.specs.Statements.{fexec, fblock, fcallAt}
+use Rattle.flat.specs.Statements.{Block, fexec, fblock, fcallAt}
 use Rattle.flat.specs.Words.{unaries, stricts, itemsOf, word, a, b, first-count, second-count, first-end, second, statementOf, functionOf, blockOf, most-nesting, flatRun}
 use Rattle.interpreter.specs.declared.Out.{Out}
 use Rattle.interpreter.specs.declared.Out.the-variants.{Goes, Trapped, OutOfFuel}
@@ -142,11 +142,14 @@ pub record Blocks (t : List ℕ) (room left depth n : ℕ) (ws ls : List ℕ) (w
 pub record Execs (t : List ℕ) (room left depth : ℕ) (ws ls : List ℕ) (w : World) (fl : D.Flow) (ls′ : List ℕ) (w′ : World) : Type 0 where
   pub same : fexec room (invokeOf t room left) (statementOf (blockOf depth) (word ws 0) ws) ls w ≡ flows fl ls′ w′
 
--- the rest of the statement at ws after its first expression's value: the block that it chooses; the second expression, and the element set
-pub record Chooses (t : List ℕ) (room left depth : ℕ) (ws : List ℕ) (v : ℕ) (ls : List ℕ) (w : World) (fl : D.Flow) (ls′ : List ℕ) (w′ : World) : Type 0 where
-  pub same : branch v (fblock room (invokeOf t room left) (blockOf depth (first-count ws) (drop (first-end ws) ws)))
-      (fblock room (invokeOf t room left) (blockOf depth (second-count ws) (drop (first-end ws + a ws) ws))) ls w ≡ flows fl ls′ w′
+-- the blocks of the statement at ws
+abbrev pub first-block : ℕ → List ℕ → Block
+first-block depth ws = blockOf depth (first-count ws) (drop (first-end ws) ws)
 
+abbrev pub second-block : ℕ → List ℕ → Block
+second-block depth ws = blockOf depth (second-count ws) (drop (first-end ws + a ws) ws)
+
+-- the rest of a store at ws after its index's value: the second expression, and the element set
 pub record Stores (t : List ℕ) (room left : ℕ) (ws : List ℕ) (i : ℕ) (ls : List ℕ) (w : World) (fl : D.Flow) (ls′ : List ℕ) (w′ : World) : Type 0 where
   pub same : bind (evaluate (invokeOf t room left) (second ws) ls w) (λ v ls₁ w₁. bind (write (record { offset = a ws; size = b ws }) i v ls₁ w₁) (λ _. value next)) ≡ flows fl ls′ w′
 

@@ -3,7 +3,7 @@ ghost use mathlib.Core.Path.{_≡_};
 ghost use Prim.Native.Nat.{ℕ};
 ghost use mathlib.Core.List.{List};
 ghost use lib.ListN.{getD};
-ghost use Rattle.flat.specs.Items.{element as elementOf, and as andOf, or as orOf, unknown};
+ghost use Rattle.flat.specs.Items.{number, element as elementOf, and as andOf, or as orOf, unknown};
 ghost use Rattle.flat.specs.Words.{kindOf, unaries, stricts};
 ghost use Rattle.interpreter.specs.Post.{Frame, Moves};
 use crate::Out;
@@ -22,6 +22,20 @@ pub struct Move {
     pub out: Out,
     pub skip: u32,
     pub h: usize,
+}
+
+// A value that is pushed.
+pub fn value(v: u32, work: &mut [u32], c: usize, h: usize) -> Move
+    requires { ⌜ Frame c h (now work) ⌝ }
+    ensures { λ r. ⌜ ((arrays : List ℕ) → Moves (now (work .entry)) c h arrays (number v) (r .out) (r .skip) (r .h) (now (work .exit))) ⌝ }
+{
+    let p = push(work, c, h, v);
+    let out = p.out;
+    Move {
+        out,
+        skip: 0,
+        h: p.h,
+    }
 }
 
 // An element of an array.
@@ -127,25 +141,8 @@ pub fn act(k: u32, a: u32, b: u32, work: &mut [u32], arrays: &[u32], c: usize, h
     ensures { λ r. ⌜ Moves (now (work .entry)) c h (now (arrays .entry)) (kindOf k a b) (r .out) (r .skip) (r .h) (now (work .exit)) ⌝ }
 {
     match k {
-        item::NUMBER => {
-            let p = push(work, c, h, a);
-            let out = p.out;
-            Move {
-                out,
-                skip: 0,
-                h: p.h,
-            }
-        }
-        item::LOCAL => {
-            let v = local(work, c, a);
-            let p = push(work, c, h, v);
-            let out = p.out;
-            Move {
-                out,
-                skip: 0,
-                h: p.h,
-            }
-        }
+        item::NUMBER => value(a, work, c, h),
+        item::LOCAL => value(local(work, c, a), work, c, h),
         item::ELEMENT => element(a, b, work, arrays, c, h),
         item::UNARY => one_side(a, work, c, h),
         item::STRICT => two_sides(a, work, c, h),

@@ -9,6 +9,7 @@ use crate::words::field;
 use flat::program;
 
 pub mod words; // words in slices
+pub mod parts; // what stands at a place in the words
 pub mod operators; // operators by their numbers
 pub mod operands; // an activation's locals and operands
 pub mod items; // items that call nothing
@@ -38,6 +39,37 @@ pub enum Outcome {
     Finished,
     Trapped(u32),
     OutOfFuel,
+}
+
+// n items or statements, whose words begin at p.
+pub struct Span {
+    pub p: usize,
+    pub n: u32,
+}
+
+// What bounds an activation: how many more may be made, how many locals it has, and how much of the log may be used.
+pub struct Bounds {
+    pub left: u32,
+    pub locals: usize,
+    pub room: usize,
+}
+
+// The fuel that is left, and how many words are logged.
+pub struct Meter {
+    pub fuel: u64,
+    pub logged: usize,
+}
+
+// How far an expression or a call came, and the meter then.
+pub struct Value {
+    pub out: Out,
+    pub meter: Meter,
+}
+
+// Where a statement or a block leads, and the meter then.
+pub struct Done {
+    pub flow: Flow,
+    pub meter: Meter,
 }
 
 // A run's outcome, the fuel that is left and how many words are logged.
@@ -71,23 +103,19 @@ pub fn run(
     ensures { λ r. ⌜ Runs (now (words .entry)) room fuel (now (arrays .entry)) (now (log .entry)) (r .outcome) (r .fuel) (r .logged) (now (arrays .exit)) (now (log .exit)) ⌝ }
 {
     let main = field(words, 0, program::MAIN);
-    let r = call(
-        words,
-        program::MOST_ACTIVATIONS,
-        main,
-        0,
-        work,
-        arrays,
-        log,
+    let left = program::MOST_ACTIVATIONS;
+    let bounds = Bounds {
+        left,
+        locals: 0,
         room,
-        fuel,
-        0,
-    );
+    };
+    let meter = Meter { fuel, logged: 0 };
+    let r = call(words, bounds, main, 0, work, arrays, log, meter);
     let out = r.out;
     let outcome = ended(out);
     Ran {
         outcome,
-        fuel: r.fuel,
-        logged: r.logged,
+        fuel: r.meter.fuel,
+        logged: r.meter.logged,
     }
 }

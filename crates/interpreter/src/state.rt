@@ -4,8 +4,12 @@ ghost use mathlib.Core.List.{List, _++_};
 ghost use Prim.Native.Nat.{ℕ, _-_, _≤_};
 ghost use lib.ListN.{length, set, take, drop, replicate};
 ghost use Rattle.interpreter.specs.Post.{Grows, Emits, Finishes, Heads, haltedOf, resultOf, world};
+use crate::Bounds;
+use crate::Done;
 use crate::Flow;
+use crate::Meter;
 use crate::Out;
+use crate::Span;
 use crate::words::field;
 use crate::words::put;
 use flat::program;
@@ -21,65 +25,54 @@ pub fn assign(work: &mut [u32], c: usize, x: u32, v: u32)
     }
 }
 
-// Where a statement leads, and how many words are logged.
-pub struct Emitted {
-    pub flow: Flow,
-    pub logged: usize,
-}
-
 // Appends a value to the log, if it has room.
-pub fn emit(log: &mut [u32], room: usize, logged: usize, v: u32) -> Emitted
+pub fn emit(log: &mut [u32], room: usize, v: u32, mut meter: Meter) -> Done
     requires { ⌜ room ≤ length (now log) ⌝ }
-    ensures { λ r. ⌜ ((fuel : ℕ) (arrays : List ℕ) → Emits room v (world fuel logged (now (log .entry)) arrays) (r .flow) (world fuel (r .logged) (now (log .exit)) arrays)) ⌝ }
-    ensures { λ r. ⌜ Grows room logged (now (log .entry)) (r .logged) (now (log .exit)) ⌝ }
+    ensures { λ r. ⌜ ((arrays : List ℕ) → Emits room v (world (meter .fuel) (meter .logged) (now (log .entry)) arrays) (r .flow) (world (r .meter .fuel) (r .meter .logged) (now (log .exit)) arrays)) ⌝ }
+    ensures { λ r. ⌜ Grows room (meter .logged) (now (log .entry)) (r .meter .logged) (now (log .exit)) ⌝ }
 {
-    if logged < room {
-        log[logged] = v;
-        return Emitted {
-            flow: Flow::Next,
-            logged: logged + 1,
-        };
+    let i = meter.logged;
+    if i < room {
+        log[i] = v;
+        meter.logged += 1;
+        let flow = Flow::Next;
+        return Done { flow, meter };
     }
-    Emitted {
-        flow: Flow::Trapped(trap::LOG_FULL),
-        logged,
-    }
+    let flow = Flow::Trapped(trap::LOG_FULL);
+    Done { flow, meter }
 }
 
 // What is left to do with the value of a statement of kind k: to set a local, to return it, to log it, or to drop it.
 pub fn finish(
     words: &[u32],
+    bounds: Bounds,
     p: usize,
     k: u32,
     v: u32,
-    c: usize,
     work: &mut [u32],
     log: &mut [u32],
-    room: usize,
-    logged: usize,
-) -> Emitted
-    requires { ⌜ room ≤ length (now log) ⌝ }
-    ensures { λ r. ⌜ ((fuel : ℕ) (arrays : List ℕ) → Finishes room k (drop p (now (words .entry))) v (take c (now (work .entry))) (world fuel logged (now (log .entry)) arrays)
-        (r .flow) (take c (now (work .exit))) (world fuel (r .logged) (now (log .exit)) arrays)) ⌝ }
-    ensures { λ r. ⌜ Grows room logged (now (log .entry)) (r .logged) (now (log .exit)) ⌝ }
+    meter: Meter,
+) -> Done
+    requires { ⌜ bounds .room ≤ length (now log) ⌝ }
+    ensures { λ r. ⌜ ((arrays : List ℕ) → Finishes (bounds .room) k (drop p (now (words .entry))) v (take (bounds .locals) (now (work .entry))) (world (meter .fuel) (meter .logged) (now (log .entry)) arrays)
+        (r .flow) (take (bounds .locals) (now (work .exit))) (world (r .meter .fuel) (r .meter .logged) (now (log .exit)) arrays)) ⌝ }
+    ensures { λ r. ⌜ Grows (bounds .room) (meter .logged) (now (log .entry)) (r .meter .logged) (now (log .exit)) ⌝ }
 {
     match k {
         statement::PUT => {
-            assign(work, c, field(words, p, statement::A), v);
-            Emitted {
-                flow: Flow::Next,
-                logged,
-            }
+            assign(work, bounds.locals, field(words, p, statement::A), v);
+            let flow = Flow::Next;
+            Done { flow, meter }
         }
-        statement::GIVE => Emitted {
-            flow: Flow::Returned(v),
-            logged,
-        },
-        statement::EMIT => emit(log, room, logged, v),
-        _ => Emitted {
-            flow: Flow::Next,
-            logged,
-        },
+        statement::GIVE => {
+            let flow = Flow::Returned(v);
+            Done { flow, meter }
+        }
+        statement::EMIT => emit(log, bounds.room, v, meter),
+        _ => {
+            let flow = Flow::Next;
+            Done { flow, meter }
+        }
     }
 }
 
@@ -120,29 +113,23 @@ pub fn result(flow: Flow) -> Out
 
 // What the words say of a function.
 pub struct Head {
-    pub place: usize,
-    pub statements: u32,
+    pub body: Span,
     pub lets: u32,
 }
 
 // Function f; one that isn't there has an empty body.
 pub fn function(words: &[u32], f: u32) -> Head
-    ensures { λ r. ⌜ Heads (now (words .entry)) f (r .place) (r .statements) (r .lets) ⌝ }
+    ensures { λ r. ⌜ Heads (now (words .entry)) f (r .body .p) (r .body .n) (r .lets) ⌝ }
 {
     if field(words, 0, program::FUNCTIONS) <= f {
-        return Head {
-            place: 0,
-            statements: 0,
-            lets: 0,
-        };
+        let body = Span { p: 0, n: 0 };
+        return Head { body, lets: 0 };
     }
     let entry = program::WORDS as usize + program::FUNCTION_WORDS as usize * f as usize;
     let place = field(words, entry, program::PLACE);
-    let statements = field(words, entry, program::STATEMENTS);
+    let n = field(words, entry, program::STATEMENTS);
     let lets = field(words, entry, program::LETS);
-    Head {
-        place: place as usize,
-        statements,
-        lets,
-    }
+    let p = place as usize;
+    let body = Span { p, n };
+    Head { body, lets }
 }

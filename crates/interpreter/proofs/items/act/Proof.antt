@@ -7,14 +7,14 @@ use Rattle.interpreter.proofs.items.act.Statement.{statement}
 use Rattle.interpreter.proofs.items.act.Tie as tie
 use borrow.Author.Needs.{needs}
 
-push-requires : tie.Need-push-requires
-push-requires c κs = search needs
+value-requires : tie.Need-value-requires
+value-requires c κs = search needs
 
 local-requires : tie.Need-local-requires
 local-requires c κs = search needs
 
-push-requires-2 : tie.Need-push-requires-2
-push-requires-2 c κs = search needs
+value-requires-2 : tie.Need-value-requires-2
+value-requires-2 c κs = search needs
 
 element-requires : tie.Need-element-requires
 element-requires c κs = search needs
@@ -35,13 +35,14 @@ same-length : tie.Need-same-length
 same-length c = search needs
 
 returns : tie.Need-returns
-returns c = L.move-number (c .before .before .before .before .before .before .before .pre .0) _ _ (c .before .before .before .before .match .keys1) (c .before .before .push .ensures)
+unfolding kindOf
+returns c = L.by-number (c .before .before .before .before .before .before .before .pre .0) 0 _ _ (c .before .before .before .before .match .keys1) refl (c .before .before .value .ensures _)
 
 same-length-2 : tie.Need-same-length-2
 same-length-2 c = search needs
 
 returns-2 : tie.Need-returns-2
-returns-2 c = L.move-local (c .before .before .before .before .before .before .before .before .before .pre .0) _ _ (c .before .before .before .before .before .before .match .keys2) (c .before .before .before .before .local .ensures) (c .before .before .push2 .ensures)
+returns-2 c = L.move-local (c .before .before .before .before .before .before .before .before .before .pre .0) _ _ (c .before .before .before .before .before .before .match .keys2) (c .before .before .before .before .local .ensures) (c .before .before .value2 .ensures _)
 
 same-length-3 : tie.Need-same-length-3
 same-length-3 c = search needs
@@ -85,4 +86,4 @@ returns-9 : tie.Need-returns-9
 returns-9 c = L.move-unknown (c .before .before .before .pre .0) _ _ (L.no-item _ (c .match .rest) (c .before .before .before .pre .1))
 
 pub act-spec : {M : Type 1} → statement M
-act-spec = tie.close (tie.spec push-requires local-requires push-requires-2 element-requires one-side-requires two-sides-requires and-requires or-requires same-length returns same-length-2 returns-2 same-length-3 returns-3 same-length-4 returns-4 same-length-5 returns-5 same-length-6 returns-6 same-length-7 returns-7 returns-8 returns-9)
+act-spec = tie.close (tie.spec value-requires local-requires value-requires-2 element-requires one-side-requires two-sides-requires and-requires or-requires same-length returns same-length-2 returns-2 same-length-3 returns-3 same-length-4 returns-4 same-length-5 returns-5 same-length-6 returns-6 same-length-7 returns-7 returns-8 returns-9)

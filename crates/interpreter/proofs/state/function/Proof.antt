@@ -34,11 +34,11 @@ field-requires-3 c κs = search needs
 field-requires-4 : tie.Need-field-requires-4
 field-requires-4 c κs = search needs
 
-cast-t9 : tie.Need-cast-t9
-cast-t9 c = search needs
+cast-p : tie.Need-cast-p
+cast-p c = search needs
 
 returns-2 : tie.Need-returns-2
 returns-2 c = L.head-there (c .before .before .before .before .before .before .args .words .now) (c .before .before .before .before .before .before .args .f) _ (c .before .before .before .before .field .ensures) (c .before .before .before .if1 .left) refl (c .before .before .field2 .ensures) (c .before .field3 .ensures) (c .field4 .ensures)
 
 pub function-spec : {M : Type 1} → statement M
-function-spec = tie.close (tie.spec field-requires returns cast-entry cast-entry-2 mul-entry add-entry field-requires-2 field-requires-3 field-requires-4 cast-t9 returns-2)
+function-spec = tie.close (tie.spec field-requires returns cast-entry cast-entry-2 mul-entry add-entry field-requires-2 field-requires-3 field-requires-4 cast-p returns-2)
