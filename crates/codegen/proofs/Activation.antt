@@ -12,7 +12,8 @@ use Rattle.language.specs.Meaning.{World, Act, callAt, most-activations}
 use Rattle.symbolic.specs.Symbolic.{Fixed, Argument, Temporary, State, pos}
 use Rattle.codegen.specs.Places.{Place, constant, local, temporary, above, frame-bytes, localWord, temporaryWord, stack-start, stack-end, most-temporaries, most-locals}
 use Rattle.codegen.specs.Operators.{stub, trapping}
-use Rattle.codegen.specs.Owed.{nothing, most-elements}
+use Rattle.language.specs.Rules.{most-elements-in-all}
+use Rattle.codegen.specs.Owed.{nothing}
 use Rattle.codegen.proofs.Placement.{At}
 use Rattle.codegen.specs.Costs.{K, C}
 use Rattle.codegen.proofs.Budgets.{activation-steps}
@@ -24,7 +25,7 @@ pub record Linked : Type 0 where
   pub setting : Setting
   pub entry : ℕ → ℕ
   pub functions : List Function
-  pub few : setting .elements ≤ most-elements
+  pub few : setting .elements ≤ most-elements-in-all
   pub trap-1 : At (setting .code) (stub 1) (trapping 1) 9
   pub trap-2 : At (setting .code) (stub 2) (trapping 2) 12
   pub trap-3 : At (setting .code) (stub 3) (trapping 3) 15

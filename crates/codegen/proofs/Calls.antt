@@ -19,7 +19,8 @@ use Rattle.language.specs.Meaning.{World, Result, goes, stops, Act, callAt}
 use Rattle.symbolic.specs.Symbolic.{Fixed, Scratch, Argument, Temporary, Reg, reg, ra, sp, Instruction, opi, lw, sw, call, State, state, updated, set, value, pos, puts, stores}
 use Rattle.codegen.specs.Places.{Place, constant, local, temporary, inRegister, frame-bytes, localWord, temporaryWord, stack-start, stack-end, source, fetch, most-temporaries, in-registers}
 use Rattle.codegen.specs.Expressions.{passes, saves, loads, registersOf, returning, entering, calling}
-use Rattle.codegen.specs.Owed.{nothing, most-parameters}
+use Rattle.language.specs.Rules.{most-parameters}
+use Rattle.codegen.specs.Owed.{nothing}
 use Rattle.codegen.proofs.Placement.{At, at-split}
 use Rattle.codegen.specs.Costs.{K, C}
 use Rattle.codegen.proofs.Budgets.{entering-steps, calling-steps}

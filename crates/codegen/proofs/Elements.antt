@@ -23,7 +23,7 @@ use Rattle.codegen.proofs.Logic.{Setting, Ran, ran-none, ran-step, ran-
 use Rattle.codegen.proofs.Numbers.{parts, shift-is, element-at}
 use Rattle.codegen.proofs.Frame.{Framed, Only, only-puts, Same, only-same, same-join, valueAt, There}
 use Rattle.codegen.proofs.Macros.{constant-ok, fetch-ok, source-only}
-use Rattle.codegen.specs.Owed.{most-elements}
+use Rattle.language.specs.Rules.{most-elements-in-all}
 
 pub same-goto : (B d q : ℕ) (σ : State) → Same B d q σ (goto q σ)
 same-goto B d q σ = record { on = refl; here = refl; fixed = λ j. refl; arguments = λ j. refl; temporaries = λ j h. refl; memory = λ a h. refl; log = refl }
@@ -55,7 +55,7 @@ module _ (S : Setting) where
   Located true B d q x i a ρ = Found B d q x i a ρ
   Located false B d q x i a ρ = Lost B d ρ
 
-  tested : {B : ℕ} (a : Array) (pl : Place) (d p q i : ℕ) (ρ : State) → Framed B → There pl → ρ .registers Fixed 1 ≡ B → a .offset + a .size ≤ most-elements
+  tested : {B : ℕ} (a : Array) (pl : Place) (d p q i : ℕ) (ρ : State) → Framed B → There pl → ρ .registers Fixed 1 ≡ B → a .offset + a .size ≤ most-elements-in-all
       → At (S .code) p (locateBy false a pl) q → ρ .status ≡ Going → ρ .pc ≡ p → valueAt pl B ρ ≡ i
       → (b : Bool) → ltb i (a .size) ≡ b → Located b B d q (lowerOf (address a 0)) i a ρ
   tested {B} a pl d p q i ρ F th hs ha hc on hp hi b e =
@@ -101,7 +101,7 @@ module _ (S : Setting) where
                 ∙ sum-is i (address a 0) (omega arith) (omega arith) ∙ (let y : data-start + 4 * (a .offset + 0) + 4 * i ≡ address a i = omega arith in y);
           }
 
-  pub located : {B : ℕ} (a : Array) (pl : Place) (d p q i : ℕ) (ρ : State) → Framed B → There pl → ρ .registers Fixed 1 ≡ B → a .offset + a .size ≤ most-elements
+  pub located : {B : ℕ} (a : Array) (pl : Place) (d p q i : ℕ) (ρ : State) → Framed B → There pl → ρ .registers Fixed 1 ≡ B → a .offset + a .size ≤ most-elements-in-all
       → At (S .code) p (locate a pl) q → ρ .status ≡ Going → ρ .pc ≡ p → valueAt pl B ρ ≡ i
       → (b : Bool) → ltb i (a .size) ≡ b → Located b B d q (offset a pl) i a ρ
   located {B} a (constant n) d p q i ρ F th hs ha hc on hp hi b e = go (ltb n (a .size)) refl hc b e

@@ -25,7 +25,8 @@ use Rattle.symbolic.specs.Symbolic.{Fixed, Scratch, Argument, Temporary, Reg, x
 use Rattle.codegen.specs.Places.{Place, constant, local, temporary, above, inRegister, source, fetch, target, keep, settle, move, most-temporaries}
 use Rattle.codegen.specs.Operators.{skip, sense, operating, result, applying, relation, comparing, testing, always, reading}
 use Rattle.codegen.specs.Expressions.{placeOf, placesOf, calling, decidingBy, code, codes, condition}
-use Rattle.codegen.specs.Owed.{nodes, nodesOf, count, nothing, Callable, Fits, FitsAll, Tests, most-parameters}
+use Rattle.language.specs.Rules.{most-parameters}
+use Rattle.codegen.specs.Owed.{nodes, nodesOf, count, nothing, Callable, Fits, FitsAll, Tests}
 use Rattle.codegen.proofs.Placement.{At, at-split, at-len}
 use Rattle.codegen.specs.Costs.{K}
 use Rattle.codegen.proofs.Budgets.{value-spare, answer-spare}

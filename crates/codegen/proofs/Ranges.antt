@@ -26,7 +26,7 @@ use Rattle.codegen.specs.Places.{Place, constant, local, temporary, inRe
 use Rattle.codegen.specs.Operators.{stub, skip, Work, plain, divided, tested, work, left, right, working, operatingBy, operating, alone, applying, result, sense, comparing, testing, always, address, inside, index, locateBy, locate, offset, reading, writing}
 use Rattle.codegen.specs.Expressions.{passes, saves, loads, registersOf, returning, entering, calling, decidingBy}
 use Rattle.codegen.proofs.Frame.{There}
-use Rattle.codegen.specs.Owed.{most-parameters}
+use Rattle.language.specs.Rules.{most-parameters}
 
 -- so far does a function reach: branches where they are near, else jumps
 abbrev pub Within : Bool → ℕ → Type 0

@@ -22,7 +22,8 @@ use Rattle.codegen.specs.Operators.{skip, sense, operating, result, appl
 use Rattle.codegen.specs.Expressions.{placeOf, placesOf, calling, decidingBy, code, codes, condition}
 use Rattle.codegen.specs.Statements.{leaving, over, otherwise, brought, answering, statement, block, clears, functionBy, nearIn, function}
 use Rattle.codegen.specs.Image.{starting, traps, functions-start, entryFrom, entryOf, functionsFrom, instructionsOf}
-use Rattle.codegen.specs.Owed.{count, nothing, Callable, Fits, FitsAll, Tests, Runs, RunsAll, Proper, Owed, most-elements, most-parameters}
+use Rattle.language.specs.Rules.{most-elements-in-all, most-parameters}
+use Rattle.codegen.specs.Owed.{count, nothing, Callable, Fits, FitsAll, Tests, Runs, RunsAll, Proper, Owed}
 use Rattle.codegen.proofs.Lengths.{by-len, function-len}
 use Rattle.codegen.proofs.Frame.{There}
 use Rattle.codegen.proofs.Operators.{apply-lt}
@@ -42,7 +43,7 @@ head-over near k a b w = within-less near (let e = length-append a b in omega (a
 tail-over : (near : Bool) (k : ℕ) (a b : List Instruction) → Within near (k + length (a ++ b)) → Within near (k + length b)
 tail-over near k a b w = within-less near (let e = length-append a b in omega (arith, e)) w
 
-module _ (functions : List Function) (elements : ℕ) (few : elements ≤ most-elements) (entry : ℕ → ℕ)
+module _ (functions : List Function) (elements : ℕ) (few : elements ≤ most-elements-in-all) (entry : ℕ → ℕ)
     (low : (f : ℕ) → f < length functions → entry f ≤ most-instructions) (takes : (f : ℕ) → f < length functions → getD functions f nothing .parameters ≤ most-parameters) (N : ℕ) (locals : N ≤ most-locals) where
   there-result : (o : Unary) (pl : Place) (d : ℕ) → d < most-temporaries → There (result o pl d)
   there-result o (constant n) d h = apply-lt o n

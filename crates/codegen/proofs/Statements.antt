@@ -24,7 +24,8 @@ use Rattle.codegen.specs.Places.{Place, constant, local, temporary, abov
 use Rattle.codegen.specs.Operators.{stub, address, locate, offset, writing}
 use Rattle.codegen.specs.Expressions.{placeOf, placesOf, calling, code, codes, condition}
 use Rattle.codegen.specs.Statements.{leaving, over, otherwise, brought, answering, statement, block}
-use Rattle.codegen.specs.Owed.{nodes, nodesOf, size, sizeOf, count, nothing, Callable, Fits, FitsAll, Tests, Runs, RunsAll, most-parameters}
+use Rattle.language.specs.Rules.{most-parameters}
+use Rattle.codegen.specs.Owed.{nodes, nodesOf, size, sizeOf, count, nothing, Callable, Fits, FitsAll, Tests, Runs, RunsAll}
 use Rattle.codegen.proofs.Placement.{At, at-split, at-len}
 use Rattle.codegen.specs.Costs.{K, C}
 use Rattle.codegen.proofs.Budgets.{answer-spare}

@@ -6,6 +6,7 @@ use lib.ListN.{length, getD}
 use Rattle.language.specs.Tree as T
 use Rattle.language.specs.Core.{Array, Expr, Args, Stmt, Block, Function, Program}
 use Rattle.language.specs.Core as C
+use Rattle.language.specs.Rules.{most-elements-in-all, most-parameters}
 use Rattle.codegen.specs.Places.{most-locals, most-temporaries}
 
 -- The nodes of expressions and the statements, each of which costs 1 of fuel when it begins.
@@ -43,13 +44,6 @@ unfoldable mutual
 -- "A program is one text of at most 65,536 bytes" (document 01): it has no more nodes than bytes.
 abbrev pub most-nodes : ℕ
 most-nodes = 65536
-
--- 16,384 elements in all, 8 parameters (document 01 §4)
-abbrev pub most-elements : ℕ
-most-elements = 16384
-
-abbrev pub most-parameters : ℕ
-most-parameters = 8
 
 abbrev pub count : Args → ℕ
 count C.none = 0
@@ -119,4 +113,4 @@ pub record Owed (p : Program) : Type 0 where
   pub each : (f : ℕ) → f < length (p .functions) → Proper (p .functions) (p .elements) (getD (p .functions) f nothing)
   pub main-known : p .main < length (p .functions)
   pub main-alone : getD (p .functions) (p .main) nothing .parameters ≡ 0
-  pub few-elements : p .elements ≤ most-elements
+  pub few-elements : p .elements ≤ most-elements-in-all

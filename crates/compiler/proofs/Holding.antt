@@ -8,6 +8,7 @@ use Rattle.language.specs.Core.{Function, Program}
 use Rattle.flat.specs.Statements.{flats}
 use Rattle.flat.specs.Words.{word, count, blockLength, entry, entries, bodies, wordsThen}
 use Rattle.flat.proofs.Decode.{Past, onward, past-block}
+use Rattle.flat.proofs.Run.{past-entries, entries-long}
 use Rattle.codegen.specs.Owed.{nothing, Owed}
 use Rattle.compiler.specs.declared.Compiled.{Compiled}
 use Rattle.compiler.specs.Standing.{Stand}
@@ -45,18 +46,6 @@ rows (g ∷ gs) place more {ws} base h (suc f) l =
     let e : base + 4 + 4 * f ≡ base + 4 * suc f = omega arith in
     subst (λ (b : ℕ). Row ws b (bodyPlace gs (place + blockLength (flats (g .body))) f) (getD gs f nothing)) e
     (rows gs (place + blockLength (flats (g .body))) more (base + 4) (onward h (record { is = refl })) f (omega arith))
-
-past-entries : (gs : List Function) (place : ℕ) (more : List ℕ) → Past (4 * length gs) (entries gs place more) more
-unfolding entries
-past-entries [] place more = record { is = refl }
-past-entries (g ∷ gs) place more =
-    let q : Past (4 + 4 * length gs) (entries (g ∷ gs) place more) more = onward {n = 4} (record { is = refl }) (past-entries gs (place + blockLength (flats (g .body))) more) in
-    subst (λ (k : ℕ). Past k (entries (g ∷ gs) place more) more) {x = 4 + 4 * length gs} {y = 4 * length (g ∷ gs)} (omega arith) q
-
-entries-long : (gs : List Function) (place : ℕ) (more : List ℕ) → length (entries gs place more) ≡ 4 * length gs + length more
-unfolding entries
-entries-long [] place more = omega arith
-entries-long (g ∷ gs) place more = omega (arith, entries-long gs (place + blockLength (flats (g .body))) more)
 
 -- a function's body stands there
 record Body (ws : List ℕ) (place : ℕ) (g : Function) : Type 0 where

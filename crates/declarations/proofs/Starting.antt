@@ -10,8 +10,8 @@ use lib.ListN.{length, getD}
 use borrow.Author.Tests.{eq-eqb, ne-eqb}
 use Rattle.word.specs.Choice.{pick, both}
 use Rattle.language.specs.Tree.{Place, Name, Ty}
-use Rattle.language.specs.Tokens.{bytes}
-use Rattle.language.specs.Rules.{keeps, _>>=_, _>>_, need, found, absent, isFunction, Global, globalOf, functionOf, sameName, main-name, mainOf}
+use Rattle.language.specs.Tokens.{bytes, same}
+use Rattle.language.specs.Rules.{keeps, _>>=_, _>>_, need, found, absent, isFunction, Global, globalOf, functionOf, main-name, mainOf}
 use Rattle.rules.specs.Tables.{word, part, typeOf, resultOf, typesFrom, thingAt, globalAt, globalsIn}
 use Rattle.rules.specs.Post.{FindsGlobal, globalEntry}
 use Rattle.rules.proofs.Making.{entry-global}
@@ -20,8 +20,8 @@ use Rattle.declarations.specs.declared.Start.the-variants as At
 
 -- The name
 
-pub other-length : (t : List ℕ) (a n : ℕ) (x : Name) → (n ≡ length x → ⊥) → false ≡ sameName (part t a n) x
-unfolding part sameName
+pub other-length : (t : List ℕ) (a n : ℕ) (x : Name) → (n ≡ length x → ⊥) → false ≡ same (part t a n) x
+unfolding part same
 other-length t a zero [] h = absurd (h refl)
 other-length t a zero (b ∷ x) h = refl
 other-length t a (suc n) [] h = refl
@@ -31,7 +31,7 @@ other-length t a (suc n) (b ∷ x) h = go (eqb (getD t a 0) b) (other-length t (
     go true e = e
     go false e = refl
 
-pub not-main : (t : List ℕ) (a n : ℕ) → (n ≡ 4 → ⊥) → false ≡ sameName (part t a n) main-name
+pub not-main : (t : List ℕ) (a n : ℕ) → (n ≡ 4 → ⊥) → false ≡ same (part t a n) main-name
 unfolding bytes
 not-main t a n h = other-length t a n main-name h
 
@@ -40,27 +40,27 @@ last true = refl
 last false = refl
 
 four : (t : List ℕ) (a b c d : ℕ) → b ≡ a + 1 → c ≡ b + 1 → d ≡ c + 1 →
-    sameName (part t a 4) main-name ≡ both (eqb (getD t a 0) 109) (both (eqb (getD t b 0) 97) (both (eqb (getD t c 0) 105) (eqb (getD t d 0) 110)))
-unfolding part sameName bytes
+    same (part t a 4) main-name ≡ both (eqb (getD t a 0) 109) (both (eqb (getD t b 0) 97) (both (eqb (getD t c 0) 105) (eqb (getD t d 0) 110)))
+unfolding part same bytes
 four t a b c d p q r = rw (← p, ← q, ← r, last (eqb (getD t d 0) 110)) refl
 
 module _ (t : List ℕ) (a n : ℕ) (e : n ≡ 4) where
-  main-is : sameName (part t a n) main-name ≡ both (eqb (getD t a 0) 109) (both (eqb (getD t (a + 1) 0) 97) (both (eqb (getD t (a + 2) 0) 105) (eqb (getD t (a + 3) 0) 110)))
-  main-is = ap (λ (k : ℕ). sameName (part t a k) main-name) e ∙ four t a (a + 1) (a + 2) (a + 3) refl (omega arith) (omega arith)
+  main-is : same (part t a n) main-name ≡ both (eqb (getD t a 0) 109) (both (eqb (getD t (a + 1) 0) 97) (both (eqb (getD t (a + 2) 0) 105) (eqb (getD t (a + 3) 0) 110)))
+  main-is = ap (λ (k : ℕ). same (part t a k) main-name) e ∙ four t a (a + 1) (a + 2) (a + 3) refl (omega arith) (omega arith)
 
   module _ {x : ℕ} (ex : x ≡ getD t a 0) where
-    pub not-first : (x ≡ 109 → ⊥) → false ≡ sameName (part t a n) main-name
+    pub not-first : (x ≡ 109 → ⊥) → false ≡ same (part t a n) main-name
     not-first h = sym (main-is ∙ rw (← ex, ne-eqb x 109 h) refl)
 
     module _ {y : ℕ} (fx : x ≡ 109) (ey : y ≡ getD t (a + 1) 0) where
-      pub not-second : (y ≡ 97 → ⊥) → false ≡ sameName (part t a n) main-name
+      pub not-second : (y ≡ 97 → ⊥) → false ≡ same (part t a n) main-name
       not-second h = sym (main-is ∙ rw (← ex, ← ey, eq-eqb x 109 fx, ne-eqb y 97 h) refl)
 
       module _ {z : ℕ} (fy : y ≡ 97) (ez : z ≡ getD t (a + 2) 0) where
-        pub not-third : (z ≡ 105 → ⊥) → false ≡ sameName (part t a n) main-name
+        pub not-third : (z ≡ 105 → ⊥) → false ≡ same (part t a n) main-name
         not-third h = sym (main-is ∙ rw (← ex, ← ey, ← ez, eq-eqb x 109 fx, eq-eqb y 97 fy, ne-eqb z 105 h) refl)
 
-        pub by-fourth : {w : ℕ} {b : Bool} → z ≡ 105 → w ≡ getD t (a + 3) 0 → b ≡ eqb w 110 → b ≡ sameName (part t a n) main-name
+        pub by-fourth : {w : ℕ} {b : Bool} → z ≡ 105 → w ≡ getD t (a + 3) 0 → b ≡ eqb w 110 → b ≡ same (part t a n) main-name
         by-fourth {w} fz ew q = q ∙ sym (main-is ∙ rw (← ex, ← ey, ← ez, ← ew, eq-eqb x 109 fx, eq-eqb y 97 fy, eq-eqb z 105 fz) refl)
 
 -- The entry

@@ -2,7 +2,8 @@
 ghost use mathlib.Core.Path.{_≡_};
 ghost use Prim.Native.Nat.{_≤_};
 ghost use lib.ListN.{length};
-ghost use Rattle.language.specs.Rules.{sameName, main-name};
+ghost use Rattle.language.specs.Rules.{main-name};
+ghost use Rattle.language.specs.Tokens.{same};
 ghost use Rattle.rules.specs.Tables.{part, globalsIn};
 ghost use Rattle.rules.specs.Post.{most-entries, FindsGlobal};
 ghost use Rattle.declarations.specs.Post.{Begins};
@@ -19,7 +20,7 @@ use rules::nodes::ARRAY;
 
 // Whether the n bytes from a on are `main`.
 pub fn is_main(text: &[u8], a: u32, n: u32) -> bool
-    ensures { λ r. ⌜ r ≡ sameName (part (now (text .entry)) a n) main-name ⌝ }
+    ensures { λ r. ⌜ r ≡ same (part (now (text .entry)) a n) main-name ⌝ }
 {
     if n != 4 {
         return false;

@@ -7,10 +7,10 @@ use Rattle.toolchain.specs.declared.interpret.Interpreted.the-variants.{Refused
 use Rattle.doorlang_c.specs.Told.{Told, told, placeOf}
 
 -- document 01 §5: which outcome
-abbrev pub outcomeOf : Outcome → ℕ
-outcomeOf Finished = 0
-outcomeOf (Trapped n) = 1
-outcomeOf OutOfFuel = 2
+abbrev pub endOf : Outcome → ℕ
+endOf Finished = 0
+endOf (Trapped n) = 1
+endOf OutOfFuel = 2
 
 -- the number of a trap
 abbrev pub trapOf : Outcome → ℕ
@@ -31,4 +31,4 @@ figures o n f l p = record { outcome = o; number = n; fuel-left = f; logged = l;
 -- a refusal is its number, with the figures as they were, the place apart; a run is 0 and its figures
 unfoldable pub interpreted : Figures → Interpreted → Told Figures
 interpreted was (Refused n at) = told n (figures (was .outcome) (was .number) (was .fuel-left) (was .logged) (placeOf n at (was .place)))
-interpreted was (Ran r) = told 0 (figures (outcomeOf (r .outcome)) (trapOf (r .outcome)) (r .fuel) (r .logged) (was .place))
+interpreted was (Ran r) = told 0 (figures (endOf (r .outcome)) (trapOf (r .outcome)) (r .fuel) (r .logged) (was .place))

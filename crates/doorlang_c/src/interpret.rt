@@ -3,7 +3,7 @@ ghost use mathlib.Core.Path.{_≡_};
 ghost use Rattle.toolchain.specs.Checking.{work};
 ghost use Rattle.toolchain.specs.Interpretation.{Interprets, lent};
 ghost use Rattle.doorlang_c.specs.Told.{Tells, told};
-ghost use Rattle.doorlang_c.specs.Interpretation.{outcomeOf, trapOf, figures, interpreted};
+ghost use Rattle.doorlang_c.specs.Interpretation.{endOf, trapOf, figures, interpreted};
 use crate::place::place_of;
 use interpreter::Outcome;
 use toolchain::interpret::Interpreted;
@@ -11,7 +11,7 @@ use toolchain::interpret::interpret;
 
 // Which outcome, as a number.
 fn outcome_of(o: Outcome) -> u32
-    ensures { λ r. ⌜ r ≡ outcomeOf o ⌝ }
+    ensures { λ r. ⌜ r ≡ endOf o ⌝ }
 {
     match o {
         Outcome::Finished => 0,

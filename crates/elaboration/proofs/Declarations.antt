@@ -10,7 +10,8 @@ use borrow.Author.Tests.{leb-true, eqb-true}
 use Rattle.word.specs.Choice.{pick}
 use Rattle.language.specs.Tree.{Place, Name, Param, Item, array, function}
 use Rattle.language.specs.Core.{Array}
-use Rattle.language.specs.Rules.{found, sameName, Signature, Thing, anArray, aFunction, Global, globalOf, isArray, isFunction, andThen, arrayOf, functionOf, most-elements-in-all, most-parameters, Declared, types, declare, declareAll, main-name, mainOf}
+use Rattle.language.specs.Rules.{found, Signature, Thing, anArray, aFunction, Global, globalOf, isArray, isFunction, andThen, arrayOf, functionOf, most-elements-in-all, most-parameters, Declared, types, declare, declareAll, main-name, mainOf}
+use Rattle.language.specs.Tokens.{same}
 use Rattle.elaboration.proofs.All.{All, kept, broken, then, anything, needed, so, Each}
 
 -- how many parameters each function has, in order of declaration
@@ -42,7 +43,7 @@ module _ {A : Type 0} (P : A → Type 0) (is : Thing → Option A) (Fine : Thing
   pub found-fine : (gs : List Global) → Each (λ g. Fine (g .thing)) gs → (x : Name) → All P (found (andThen (globalOf gs x) (λ g. is (g .thing))) at)
   unfolding globalOf found
   found-fine [] Each.none x = broken
-  found-fine (g ∷ gs) (Each.more h hs) x = go (sameName (g .name) x) (fine (g .thing) h) (found-fine gs hs x)
+  found-fine (g ∷ gs) (Each.more h hs) x = go (same (g .name) x) (fine (g .thing) h) (found-fine gs hs x)
     where
       go : (b : Bool) → All P (found (is (g .thing)) at) → All P (found (andThen (globalOf gs x) (λ g. is (g .thing))) at) →
           All P (found (andThen (pick b (some g) (globalOf gs x)) (λ g. is (g .thing))) at)

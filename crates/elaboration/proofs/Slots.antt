@@ -6,7 +6,8 @@ use Prim.Native.Nat.{ℕ, suc, _≤_, _<_}
 use native.Mathlib.Omega.{arith}
 use Rattle.word.specs.Choice.{pick}
 use Rattle.language.specs.Tree.{Place, Name}
-use Rattle.language.specs.Rules.{found, sameName, Local, localOf}
+use Rattle.language.specs.Rules.{found, Local, localOf}
+use Rattle.language.specs.Tokens.{same}
 use Rattle.elaboration.proofs.All.{All, kept, broken, Each}
 
 -- a local that is visible has its slot among the n of the function
@@ -17,7 +18,7 @@ Visible n ls = Each (λ l. l .slot < n) ls
 pub local-seen : {P : Local → Type 0} {ls : List Local} → Each P ls → (at : Place) (x : Name) → All P (found (localOf ls x) at)
 unfolding localOf found
 local-seen Each.none at x = broken
-local-seen {P} (Each.more {a = l} {xs = ls} h hs) at x = go (sameName (l .name) x) (local-seen hs at x)
+local-seen {P} (Each.more {a = l} {xs = ls} h hs) at x = go (same (l .name) x) (local-seen hs at x)
   where
     go : (b : Bool) → All P (found (localOf ls x) at) → All P (found (pick b (some l) (localOf ls x)) at)
     go true r = kept h

@@ -36,10 +36,16 @@ record Entry (ws : List ℕ) (place : ℕ) (g : C.Function) : Type 0 where
 past-entry : (m p c n l : ℕ) (ws : List ℕ) → drop (function-words * suc m) (p ∷ c ∷ n ∷ l ∷ ws) ≡ drop (function-words * m) ws
 past-entry m p c n l ws = ap (λ (j : ℕ). drop j (p ∷ c ∷ n ∷ l ∷ ws)) {x = function-words * suc m} {y = suc (suc (suc (suc (function-words * m))))} (omega arith)
 
-past-entries : (fs : List C.Function) (place : ℕ) (more : List ℕ) → Past (function-words * length fs) (entries fs place more) more
+pub past-entries : (fs : List C.Function) (place : ℕ) (more : List ℕ) → Past (function-words * length fs) (entries fs place more) more
 unfolding entries
 past-entries [] place more = record { is = refl }
 past-entries (f ∷ fs) place more = record { is = past-entry (length fs) _ _ _ _ _ ∙ past-entries fs (place + blockLength (flats (f .body))) more .is }
+
+-- how many words the entries are
+pub entries-long : (fs : List C.Function) (place : ℕ) (more : List ℕ) → length (entries fs place more) ≡ function-words * length fs + length more
+unfolding entries
+entries-long [] place more = omega arith
+entries-long (f ∷ fs) place more = omega (arith, entries-long fs (place + blockLength (flats (f .body))) more)
 
 entry-at : (fs : List C.Function) (f place : ℕ) (more : List ℕ) → f < length fs → Entry (drop (function-words * f) (entries fs place more)) (place + before fs f) (functionAt fs f)
 unfolding entries before functionAt

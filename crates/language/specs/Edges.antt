@@ -9,10 +9,10 @@ use lib.ListN.{length, replicate}
 use Rattle.word.specs.Word.{addW, subW, mulW, negW, negative, magnitude, ltS, quotS, remS, bitOf}
 use Rattle.language.specs.Tree.{Name, Ty, int, bool, negate, not, eq, ne, lt, le, gt, ge, add, sub, mul, div, rem, or, and, strict, Strict, Param, Item, array, function, Expr, Stmt, Block, number, truth, name, element, call, unary, binary, declare, assign, store, when, choose, while, leave, give, emit, run, end, then}
 use Rattle.language.specs.Tree as T
-use Rattle.language.specs.Tokens.{bytes}
+use Rattle.language.specs.Tokens.{bytes, same}
 use Rattle.language.specs.Core.{Program}
 use Rattle.language.specs.Core as C
-use Rattle.language.specs.Rules.{Ruled, keeps, breaks, main-name, elaborate, _>>=_, need, found, sameName, globalOf, localOf, arrayOf, functionOf, declare as declareItem, declareAll, mainOf, want, changed, joined, combined, indexed, fit, called, known, expr, exprs, fresh, leaves, gives, stmt, block as blockOf, parameters, isReturn, endsInReturn, functionFrom, functionsFrom}
+use Rattle.language.specs.Rules.{Ruled, keeps, breaks, main-name, elaborate, _>>=_, need, found, globalOf, localOf, arrayOf, functionOf, declare as declareItem, declareAll, mainOf, want, changed, joined, combined, indexed, fit, called, known, expr, exprs, fresh, leaves, gives, stmt, block as blockOf, parameters, isReturn, endsInReturn, functionFrom, functionsFrom}
 use Rattle.language.specs.Meaning.{World, Stop, trapped, outOfFuel, Outcome, finished, stopped, Run, runOf, bind, begin, apply, operate, read, write, fetch, assign as assignSlot, rounds, append, eval, evals, exec, block, back, callAt}
 use Rattle.language.specs.Examples.{var, _⟨_⟩_, minus, body, one, param, main}
 
@@ -123,5 +123,5 @@ pub record Edges : Type 0 where
   pub and-needs-both : runs (elaborate (main (when 0 (binary 0 and (truth true) (truth false)) (body (emit 0 (number 1) ∷ [])) ∷ when 0 (binary 0 or (truth false) (truth true)) (body (emit 0 (number 2) ∷ [])) ∷ []) ∷ []) 0) [] 100 9 ≡ ends finished (2 ∷ []) [] 90
 
 pub edges : Edges
-unfolding bytes _>>=_ need found sameName globalOf localOf arrayOf functionOf declareItem declareAll mainOf want changed joined combined indexed fit called known expr exprs fresh leaves gives stmt blockOf parameters isReturn endsInReturn functionFrom functionsFrom elaborate runOf bind begin apply operate read write fetch assignSlot rounds append eval evals exec block back callAt addW subW mulW negW negative magnitude ltS quotS remS bitOf
+unfolding bytes _>>=_ need found same globalOf localOf arrayOf functionOf declareItem declareAll mainOf want changed joined combined indexed fit called known expr exprs fresh leaves gives stmt blockOf parameters isReturn endsInReturn functionFrom functionsFrom elaborate runOf bind begin apply operate read write fetch assignSlot rounds append eval evals exec block back callAt addW subW mulW negW negative magnitude ltS quotS remS bitOf
 edges = record { arrays-64 = refl; arrays-65 = refl; elements-16384 = refl; elements-16385 = refl; size-4097 = refl; size-0 = refl; functions-256 = refl; functions-257 = refl; parameters-8 = refl; parameters-9 = refl; locals-64 = refl; locals-65 = refl; parameter-twice = refl; main-an-array = refl; main-with-a-parameter = refl; main-with-a-result = refl; side-by-side = refl; hidden-in-a-block = refl; named-like-a-function = refl; after-its-block = refl; array-without-index-assigned = refl; function-without-a-call = refl; named-twice = refl; array-named-twice = refl; lets-of-blocks-count = refl; no-result-in-an-expression = refl; two-types-compared = refl; condition-before-its-block = refl; both-blocks-return = refl; return-not-last = refl; return-without-a-value = refl; return-of-another-type = refl; return-with-a-value = refl; result-dropped = refl; too-many-arguments = refl; main-calls-itself = refl; trap-at-the-last-unit = refl; one-unit-less = refl; no-fuel-for-nothing = refl; no-fuel-for-a-statement = refl; no-fuel-for-its-node = refl; no-room = refl; just-enough = refl; trap-before-full = refl; while-once = refl; while-no-condition = refl; index-below-0 = refl; index-least = refl; index-minus-0 = refl; order-at-the-ends = refl; returns-from-a-loop = refl; and-skips = refl; or-skips = refl; greater-and-less = refl; not-true = refl; and-needs-both = refl }

@@ -8,10 +8,10 @@ use Prim.Native.String.{String}
 use Rattle.word.specs.Word.{addW, subW, mulW, negW, negative, magnitude, ltS, quotS, remS, bitOf}
 use Rattle.language.specs.Tree.{Name, Ty, int, bool, negate, not, eq, ne, lt, le, gt, ge, add, sub, mul, div, rem, or, and, strict, Strict, Param, Item, array, function, Expr, Stmt, Block, number, truth, name, element, call, unary, binary, declare, assign, store, when, choose, while, leave, give, emit, run, end, then}
 use Rattle.language.specs.Tree as T
-use Rattle.language.specs.Tokens.{bytes}
+use Rattle.language.specs.Tokens.{bytes, same}
 use Rattle.language.specs.Core.{Program}
 use Rattle.language.specs.Core as C
-use Rattle.language.specs.Rules.{Ruled, keeps, breaks, main-name, elaborate, _>>=_, need, found, sameName, globalOf, localOf, arrayOf, functionOf, declare as declareItem, declareAll, mainOf, want, changed, joined, combined, indexed, fit, called, known, expr, exprs, fresh, leaves, gives, stmt, block as blockOf, parameters, isReturn, endsInReturn, functionFrom, functionsFrom}
+use Rattle.language.specs.Rules.{Ruled, keeps, breaks, main-name, elaborate, _>>=_, need, found, globalOf, localOf, arrayOf, functionOf, declare as declareItem, declareAll, mainOf, want, changed, joined, combined, indexed, fit, called, known, expr, exprs, fresh, leaves, gives, stmt, block as blockOf, parameters, isReturn, endsInReturn, functionFrom, functionsFrom}
 use Rattle.language.specs.Meaning.{World, Stop, trapped, outOfFuel, Outcome, finished, stopped, Run, runOf, bind, begin, apply, operate, read, write, fetch, assign as assignSlot, rounds, append, eval, evals, exec, block, back, callAt}
 
 -- Writing trees
@@ -212,5 +212,5 @@ pub record Vectors : Type 0 where
   pub minus-minus : runs (elaborate (main (emits (unary 0 negate (minus 5) ∷ [])) ∷ []) 0) [] ≡ ends finished (5 ∷ []) [] 4
 
 pub vectors : Vectors
-unfolding bytes _>>=_ need found sameName globalOf localOf arrayOf functionOf declareItem declareAll mainOf want changed joined combined indexed fit called known expr exprs fresh leaves gives stmt blockOf parameters isReturn endsInReturn functionFrom functionsFrom elaborate runOf bind begin apply operate read write fetch assignSlot rounds append eval evals exec block back callAt addW subW mulW negW negative magnitude ltS quotS remS bitOf
+unfolding bytes _>>=_ need found same globalOf localOf arrayOf functionOf declareItem declareAll mainOf want changed joined combined indexed fit called known expr exprs fresh leaves gives stmt blockOf parameters isReturn endsInReturn functionFrom functionsFrom elaborate runOf bind begin apply operate read write fetch assignSlot rounds append eval evals exec block back callAt addW subW mulW negW negative magnitude ltS quotS remS bitOf
 vectors = record { G-runs = refl; G-core = refl; Z-quiet = refl; Z-one = refl; Z-two = refl; row-nothing = refl; row-emit = refl; row-trap-1 = refl; row-division = refl; row-wraps = refl; row-trap-2 = refl; row-order = refl; row-index-last = refl; row-62 = refl; row-63 = refl; row-endless = refl; no-main = refl; let-of-itself = refl; hiding = refl; ordered-truths = refl; falls-off = refl; falls-through = refl; no-index = refl; equal-truths = refl; minus-minus = refl }

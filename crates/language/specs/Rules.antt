@@ -12,7 +12,7 @@ use lib.ListN.{length}
 use Rattle.word.specs.Choice.{pick, both}
 use Rattle.language.specs.Tree.{Place, Name, Ty, int, bool, Unary, negate, not, Strict, eq, ne, lt, le, gt, ge, add, sub, mul, div, rem, Binary, or, and, strict, Param, Item, array, function}
 use Rattle.language.specs.Tree as T
-use Rattle.language.specs.Tokens.{bytes}
+use Rattle.language.specs.Tokens.{bytes, same}
 use Rattle.language.specs.Core.{Array, Function, Program}
 use Rattle.language.specs.Core as C
 
@@ -45,12 +45,6 @@ absent (some a) = false
 
 -- Names and what they stand for
 
-unfoldable pub sameName : Name → Name → Bool
-sameName [] [] = true
-sameName [] (b ∷ y) = false
-sameName (a ∷ x) [] = false
-sameName (a ∷ x) (b ∷ y) = both (eqb a b) (sameName x y)
-
 pub record Signature : Type 0 where
   pub number : ℕ
   pub parameters : List Ty
@@ -74,11 +68,11 @@ pub record Local : Type 0 where
 
 unfoldable pub globalOf : List Global → Name → Option Global
 globalOf [] x = none
-globalOf (g ∷ gs) x = pick (sameName (g .name) x) (some g) (globalOf gs x)
+globalOf (g ∷ gs) x = pick (same (g .name) x) (some g) (globalOf gs x)
 
 unfoldable pub localOf : List Local → Name → Option Local
 localOf [] x = none
-localOf (l ∷ ls) x = pick (sameName (l .name) x) (some l) (localOf ls x)
+localOf (l ∷ ls) x = pick (same (l .name) x) (some l) (localOf ls x)
 
 abbrev pub isArray : Thing → Option Array
 isArray (anArray a) = some a

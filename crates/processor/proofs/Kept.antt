@@ -47,27 +47,27 @@ extends-trans : (a b c : List ℕ) → Extends a b → Extends b c → Extends a
 extends-trans a b c f g = record { more = f .more ++ g .more; is = g .is ∙ ap (λ (l : List ℕ). l ++ g .more) (f .is) ∙ append-assoc a (f .more) (g .more) }
 
 -- The machine n after some steps, beside the machine m before them.
-pub record Keeps (m n : Machine) : Type 0 where
+pub record After (m n : Machine) : Type 0 where
   pub code : (j : ℕ) → j < data-start → byteAt (n .memory) j ≡ byteAt (m .memory) j
   pub memory-length : length (n .memory) ≡ length (m .memory)
   pub registers-length : length (n .registers) ≡ length (m .registers)
   pub log : Extends (m .log) (n .log)
 
-keeps-trans : (l m n : Machine) → Keeps l m → Keeps m n → Keeps l n
-keeps-trans l m n f g = record {
+after-trans : (l m n : Machine) → After l m → After m n → After l n
+after-trans l m n f g = record {
   code = λ j h. g .code j h ∙ f .code j h;
   memory-length = g .memory-length ∙ f .memory-length;
   registers-length = g .registers-length ∙ f .registers-length;
   log = extends-trans (l .log) (m .log) (n .log) (f .log) (g .log);
 }
 
-keeps-halt : (m : Machine) (s : Status) → Keeps m (halt m s)
-keeps-halt m s = record { code = λ j h. refl; memory-length = refl; registers-length = refl; log = extends-refl (m .log) }
+after-halt : (m : Machine) (s : Status) → After m (halt m s)
+after-halt m s = record { code = λ j h. refl; memory-length = refl; registers-length = refl; log = extends-refl (m .log) }
 
-pub step-keeps : (size room : ℕ) (m : Machine) → Keeps m (stepOf size room m)
-step-keeps size room m = step-by room m (Keeps m) ways size
+pub step-keeps : (size room : ℕ) (m : Machine) → After m (stepOf size room m)
+step-keeps size room m = step-by room m (After m) ways size
   where
-    ways : Ways room m (Keeps m)
+    ways : Ways room m (After m)
     ways = record {
       going = λ p. record { code = λ j h. refl; memory-length = refl; registers-length = refl; log = extends-refl (m .log) };
       writing = λ rd v p. record { code = λ j h. refl; memory-length = refl; registers-length = setRegister-length (m .registers) rd v; log = extends-refl (m .log) };
@@ -78,16 +78,16 @@ step-keeps size room m = step-by room m (Keeps m) ways size
         log = extends-refl (m .log);
       };
       logging = λ v p l. record { code = λ j h. refl; memory-length = refl; registers-length = refl; log = record { more = v ∷ []; is = refl } };
-      stopping = λ s t. keeps-halt m s;
+      stopping = λ s t. after-halt m s;
     }
 
-pub run-keeps : (size room n : ℕ) (m : Machine) (k : ℕ) → Keeps m (runOf size room n m k .machine)
+pub run-keeps : (size room n : ℕ) (m : Machine) (k : ℕ) → After m (runOf size room n m k .machine)
 run-keeps size room n m k =
-    run-by (Keeps m) size room (λ x h. keeps-trans m x (stepOf size room x) h (step-keeps size room x)) (λ x h. keeps-trans m x (halt x Limit) h (keeps-halt x Limit)) n m k
+    run-by (After m) size room (λ x h. after-trans m x (stepOf size room x) h (step-keeps size room x)) (λ x h. after-trans m x (halt x Limit) h (after-halt x Limit)) n m k
     (record { code = λ j h. refl; memory-length = refl; registers-length = refl; log = extends-refl (m .log) })
 
 -- A word below 0x100000 stays.
-pub word-kept : (m n : Machine) (p : ℕ) → Keeps m n → p + 4 ≤ data-start → wordAt (n .memory) p ≡ wordAt (m .memory) p
+pub word-kept : (m n : Machine) (p : ℕ) → After m n → p + 4 ≤ data-start → wordAt (n .memory) p ≡ wordAt (m .memory) p
 word-kept m n p K h = word-by (n .memory) (m .memory) p (λ k l. K .code (p + k) (omega arith))
 
 -- The log stays within its room.

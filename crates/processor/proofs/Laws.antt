@@ -16,7 +16,7 @@ use Rattle.processor.specs.Image.{longest-code, longest-input}
 use Rattle.processor.proofs.Round as Round
 use Rattle.processor.proofs.Round.{Says}
 use Rattle.processor.proofs.Kept as Kept
-use Rattle.processor.proofs.Kept.{Keeps}
+use Rattle.processor.proofs.Kept.{After}
 use Rattle.processor.proofs.Sized as Sized
 use Rattle.processor.proofs.Sized.{Bytes, Sized}
 use Rattle.processor.proofs.Onward as Onward
@@ -40,15 +40,15 @@ pub step-at : (size room : ℕ) (m : Machine) (i : Instr) → WellFormed i → i
 step-at = Fetch.step-at
 
 -- No step and no run changes memory below 0x100000, how long memory and registers are, or what was logged.
-pub step-keeps : (size room : ℕ) (m : Machine) → Keeps m (stepOf size room m)
+pub step-keeps : (size room : ℕ) (m : Machine) → After m (stepOf size room m)
 step-keeps = Kept.step-keeps
 
-pub run-keeps : (size room n : ℕ) (m : Machine) (k : ℕ) → Keeps m (runOf size room n m k .machine)
+pub run-keeps : (size room n : ℕ) (m : Machine) (k : ℕ) → After m (runOf size room n m k .machine)
 run-keeps = Kept.run-keeps
 
 -- So the k-th word of the code is where it was placed, in every machine that a run makes.
 pub code-word : (code input : List ℕ) → length code ≤ longest-code → length input ≤ longest-input
-    → (m : Machine) (k : ℕ) → Keeps (startOf code input) m → 4 * k + 3 < length code → wordAt (m .memory) (code-start + 4 * k) ≡ getD (wordsOfBytes code) k 0
+    → (m : Machine) (k : ℕ) → After (startOf code input) m → 4 * k + 3 < length code → wordAt (m .memory) (code-start + 4 * k) ≡ getD (wordsOfBytes code) k 0
 code-word = Start.code-word
 
 -- Registers and pc are words and stay so, memory is bytes and stays so, the log stays within its room.

@@ -10,7 +10,7 @@ use Rattle.word.proofs.Cases.{by-order}
 use Rattle.word.proofs.WordBytes.{wordsOfBytes-at}
 use Rattle.processor.specs.Machine.{Machine, byteAt, wordAt, memory-bytes, code-start, data-start, register-count, zeros, placed, startMemory, startOf}
 use Rattle.processor.specs.Image.{longest-code, longest-input}
-use Rattle.processor.proofs.Kept.{Keeps, word-kept}
+use Rattle.processor.proofs.Kept.{After, word-kept}
 use Rattle.processor.proofs.Sized.{Bytes, Sized}
 
 zeros-length : (n : ℕ) → length (zeros n) ≡ n
@@ -127,6 +127,6 @@ module _ (code input : List ℕ) (short : length code ≤ longest-code) (small :
       four e f g h = rw (e, f, g, h)
 
   -- and so of every machine that a run makes of it
-  pub code-word : (m : Machine) (k : ℕ) → Keeps (startOf code input) m → 4 * k + 3 < length code → wordAt (m .memory) (code-start + 4 * k) ≡ getD (wordsOfBytes code) k 0
+  pub code-word : (m : Machine) (k : ℕ) → After (startOf code input) m → 4 * k + 3 < length code → wordAt (m .memory) (code-start + 4 * k) ≡ getD (wordsOfBytes code) k 0
   unfolding startOf
   code-word m k K h = word-kept (startOf code input) m (code-start + 4 * k) K (omega arith) ∙ start-word k h

@@ -10,14 +10,15 @@ use lib.Dec.{eqb}
 use borrow.Author.Tests.{eq-eqb, ne-eqb}
 use Rattle.word.specs.Choice.{pick, both}
 use Rattle.language.specs.Tree.{Name, Ty, int, bool}
-use Rattle.language.specs.Rules.{sameName, sameTy, Local, Global, localOf, globalOf}
+use Rattle.language.specs.Rules.{sameTy, Local, Global, localOf, globalOf}
+use Rattle.language.specs.Tokens.{same}
 use Rattle.rules.specs.Tables.{part, typeOf, typesFrom, sameTypes, localAt, localsIn, globalAt, globalsIn}
 use Rattle.rules.specs.Post.{localEntry, FindsLocal, globalEntry, FindsGlobal}
 
 -- Names
 
-pub differ-length : (t : List ℕ) (a b n m : ℕ) → (n ≡ m → ⊥) → false ≡ sameName (part t a n) (part t b m)
-unfolding part sameName
+pub differ-length : (t : List ℕ) (a b n m : ℕ) → (n ≡ m → ⊥) → false ≡ same (part t a n) (part t b m)
+unfolding part same
 differ-length t a b zero zero h = absurd (h refl)
 differ-length t a b zero (suc m) h = refl
 differ-length t a b (suc n) zero h = refl
@@ -29,44 +30,44 @@ differ-length t a b (suc n) (suc m) h = go (eqb (getD t a 0) (getD t b 0)) (diff
 
 pub record Comparing (t : List ℕ) (a b n i : ℕ) : Type 0 where
   pub below : i ≤ n
-  pub rest : sameName (part t a n) (part t b n) ≡ sameName (part t (a + i) (n - i)) (part t (b + i) (n - i))
+  pub rest : same (part t a n) (part t b n) ≡ same (part t (a + i) (n - i)) (part t (b + i) (n - i))
 
 pub comparing-start : (t : List ℕ) (a b n : ℕ) → Comparing t a b n 0
 comparing-start t a b n = record { below = omega arith; rest = at (a + 0) (b + 0) (n - 0) (omega arith) (omega arith) (omega arith) }
   where
-    at : (x y m : ℕ) → x ≡ a → y ≡ b → m ≡ n → sameName (part t a n) (part t b n) ≡ sameName (part t x m) (part t y m)
+    at : (x y m : ℕ) → x ≡ a → y ≡ b → m ≡ n → same (part t a n) (part t b n) ≡ same (part t x m) (part t y m)
     at x y m p q r = rw (p, q, r)
 
-step-one : (t : List ℕ) (x y m k : ℕ) → m ≡ suc k → sameName (part t x m) (part t y m) ≡ both (eqb (getD t x 0) (getD t y 0)) (sameName (part t (x + 1) k) (part t (y + 1) k))
-unfolding part sameName
+step-one : (t : List ℕ) (x y m k : ℕ) → m ≡ suc k → same (part t x m) (part t y m) ≡ both (eqb (getD t x 0) (getD t y 0)) (same (part t (x + 1) k) (part t (y + 1) k))
+unfolding part same
 step-one t x y m k e = rw e
 
 module _ {t : List ℕ} {a b n i : ℕ} (c : Comparing t a b n i) (l : i < n) {x y : ℕ} (ex : x ≡ getD t (a + i) 0) (ey : y ≡ getD t (b + i) 0) where
-  here : sameName (part t a n) (part t b n) ≡ both (eqb x y) (sameName (part t (a + i + 1) (n - (i + 1))) (part t (b + i + 1) (n - (i + 1))))
+  here : same (part t a n) (part t b n) ≡ both (eqb x y) (same (part t (a + i + 1) (n - (i + 1))) (part t (b + i + 1) (n - (i + 1))))
   here = c .rest ∙ (step-one t (a + i) (b + i) (n - i) (n - (i + 1)) (omega arith) ∙ rw (ex, ey))
 
   pub comparing-next : x ≡ y → Comparing t a b n (i + 1)
   comparing-next e = record { below = omega arith; rest = here ∙ (rw (eq-eqb x y e) (at (a + i + 1) (b + i + 1) (omega arith) (omega arith))) }
     where
-      at : (p q : ℕ) → p ≡ a + (i + 1) → q ≡ b + (i + 1) → sameName (part t p (n - (i + 1))) (part t q (n - (i + 1))) ≡ sameName (part t (a + (i + 1)) (n - (i + 1))) (part t (b + (i + 1)) (n - (i + 1)))
+      at : (p q : ℕ) → p ≡ a + (i + 1) → q ≡ b + (i + 1) → same (part t p (n - (i + 1))) (part t q (n - (i + 1))) ≡ same (part t (a + (i + 1)) (n - (i + 1))) (part t (b + (i + 1)) (n - (i + 1)))
       at p q u v = rw (u, v)
 
-  pub comparing-no : (x ≡ y → ⊥) → false ≡ sameName (part t a n) (part t b n)
+  pub comparing-no : (x ≡ y → ⊥) → false ≡ same (part t a n) (part t b n)
   comparing-no h = sym (here ∙ rw (ne-eqb x y h))
 
-pub comparing-end : {t : List ℕ} {a b n i : ℕ} → Comparing t a b n i → n ≤ i → true ≡ sameName (part t a n) (part t b n)
-unfolding part sameName
+pub comparing-end : {t : List ℕ} {a b n i : ℕ} → Comparing t a b n i → n ≤ i → true ≡ same (part t a n) (part t b n)
+unfolding part same
 comparing-end {t} {a} {b} {n} {i} c l = sym (c .rest ∙ at (n - i) (omega arith))
   where
-    at : (m : ℕ) → m ≡ 0 → sameName (part t (a + i) m) (part t (b + i) m) ≡ true
+    at : (m : ℕ) → m ≡ 0 → same (part t (a + i) m) (part t (b + i) m) ≡ true
     at m e = rw e
 
 -- the lengths agree
-pub no-at : {t : List ℕ} {a b n m i : ℕ} → Comparing t a b n i → i < n → {x y : ℕ} → x ≡ getD t (a + i) 0 → y ≡ getD t (b + i) 0 → (x ≡ y → ⊥) → n ≡ m → false ≡ sameName (part t a n) (part t b m)
-no-at {t} {a} {b} {n} {m} {i} c l {x} {y} p q h e = comparing-no c l p q h ∙ ap (λ (j : ℕ). sameName (part t a n) (part t b j)) e
+pub no-at : {t : List ℕ} {a b n m i : ℕ} → Comparing t a b n i → i < n → {x y : ℕ} → x ≡ getD t (a + i) 0 → y ≡ getD t (b + i) 0 → (x ≡ y → ⊥) → n ≡ m → false ≡ same (part t a n) (part t b m)
+no-at {t} {a} {b} {n} {m} {i} c l {x} {y} p q h e = comparing-no c l p q h ∙ ap (λ (j : ℕ). same (part t a n) (part t b j)) e
 
-pub end-at : {t : List ℕ} {a b n m i : ℕ} → Comparing t a b n i → n ≤ i → n ≡ m → true ≡ sameName (part t a n) (part t b m)
-end-at {t} {a} {b} {n} {m} c l e = comparing-end c l ∙ ap (λ (j : ℕ). sameName (part t a n) (part t b j)) e
+pub end-at : {t : List ℕ} {a b n m i : ℕ} → Comparing t a b n i → n ≤ i → n ≡ m → true ≡ same (part t a n) (part t b m)
+end-at {t} {a} {b} {n} {m} c l e = comparing-end c l ∙ ap (λ (j : ℕ). same (part t a n) (part t b j)) e
 
 -- Entries
 
@@ -74,13 +75,13 @@ pub record Finding (text ws : List ℕ) (count : ℕ) (x : Name) (i : ℕ) : Typ
   pub rest : localOf (localsIn text ws count) x ≡ localOf (localsIn text ws i) x
   pub among : i ≤ count
 
-local-step : (text ws : List ℕ) (i : ℕ) (x : Name) → 0 < i → localOf (localsIn text ws i) x ≡ pick (sameName (localAt text ws (i - 1) .name) x) (localEntry text ws i) (localOf (localsIn text ws (i - 1)) x)
+local-step : (text ws : List ℕ) (i : ℕ) (x : Name) → 0 < i → localOf (localsIn text ws i) x ≡ pick (same (localAt text ws (i - 1) .name) x) (localEntry text ws i) (localOf (localsIn text ws (i - 1)) x)
 unfolding localOf localsIn localEntry
 local-step text ws zero x h = absurd (omega arith)
-local-step text ws (suc i) x h = ap (λ (j : ℕ). pick (sameName (localAt text ws j .name) x) (some (localAt text ws i)) (localOf (localsIn text ws j) x)) {x = i} {y = suc i - 1} (omega arith)
+local-step text ws (suc i) x h = ap (λ (j : ℕ). pick (same (localAt text ws j .name) x) (some (localAt text ws i)) (localOf (localsIn text ws j) x)) {x = i} {y = suc i - 1} (omega arith)
 
 module _ {text ws : List ℕ} {count i : ℕ} (x : Name) (c : Finding text ws count x i) (l : 0 < i) {p k : ℕ} {r : Bool}
-    (ep : p ≡ getD ws (4 * (i - 1)) 0) (ek : k ≡ getD ws (4 * (i - 1) + 1) 0) (er : r ≡ sameName (part text p k) x) where
+    (ep : p ≡ getD ws (4 * (i - 1)) 0) (ek : k ≡ getD ws (4 * (i - 1) + 1) 0) (er : r ≡ same (part text p k) x) where
   local-now : localOf (localsIn text ws count) x ≡ pick r (localEntry text ws i) (localOf (localsIn text ws (i - 1)) x)
   unfolding localAt
   local-now = c .rest ∙ (local-step text ws i x l ∙ rw (← ep, ← ek, ← er))
@@ -103,13 +104,13 @@ pub record Seeking (text tree ws : List ℕ) (count : ℕ) (x : Name) (i : ℕ) 
   pub among : i ≤ count
 
 global-step : (text tree ws : List ℕ) (i : ℕ) (x : Name) → 0 < i →
-    globalOf (globalsIn text tree ws i) x ≡ pick (sameName (globalAt text tree ws (i - 1) .name) x) (globalEntry text tree ws i) (globalOf (globalsIn text tree ws (i - 1)) x)
+    globalOf (globalsIn text tree ws i) x ≡ pick (same (globalAt text tree ws (i - 1) .name) x) (globalEntry text tree ws i) (globalOf (globalsIn text tree ws (i - 1)) x)
 unfolding globalOf globalsIn globalEntry
 global-step text tree ws zero x h = absurd (omega arith)
-global-step text tree ws (suc i) x h = ap (λ (j : ℕ). pick (sameName (globalAt text tree ws j .name) x) (some (globalAt text tree ws i)) (globalOf (globalsIn text tree ws j) x)) {x = i} {y = suc i - 1} (omega arith)
+global-step text tree ws (suc i) x h = ap (λ (j : ℕ). pick (same (globalAt text tree ws j .name) x) (some (globalAt text tree ws i)) (globalOf (globalsIn text tree ws j) x)) {x = i} {y = suc i - 1} (omega arith)
 
 module _ {text tree ws : List ℕ} {count i : ℕ} (x : Name) (c : Seeking text tree ws count x i) (l : 0 < i) {h p k : ℕ} {r : Bool}
-    (eh : h ≡ getD ws (2 * (i - 1)) 0) (ep : p ≡ getD tree (h + 1) 0) (ek : k ≡ getD tree (h + 2) 0) (er : r ≡ sameName (part text p k) x) where
+    (eh : h ≡ getD ws (2 * (i - 1)) 0) (ep : p ≡ getD tree (h + 1) 0) (ek : k ≡ getD tree (h + 2) 0) (er : r ≡ same (part text p k) x) where
   global-now : globalOf (globalsIn text tree ws count) x ≡ pick r (globalEntry text tree ws i) (globalOf (globalsIn text tree ws (i - 1)) x)
   unfolding globalAt
   global-now = c .rest ∙ (global-step text tree ws i x l ∙ rw (← eh, ← ep, ← ek, ← er))

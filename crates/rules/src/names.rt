@@ -2,7 +2,7 @@
 ghost use mathlib.Core.Path.{_≡_};
 ghost use Prim.Native.Nat.{_≤_};
 ghost use lib.ListN.{getD};
-ghost use Rattle.language.specs.Rules.{sameName};
+ghost use Rattle.language.specs.Tokens.{same};
 ghost use Rattle.rules.specs.Tables.{part};
 ghost use Rattle.rules.specs.Post.{FindsLocal, FindsGlobal, most-entries};
 
@@ -45,7 +45,7 @@ pub fn word(ws: &[u32], i: usize) -> u32
 
 // Whether the n bytes from a on and the m bytes from b on are one name.
 pub fn same_name(text: &[u8], a: u32, n: u32, b: u32, m: u32) -> bool
-    ensures { λ r. ⌜ r ≡ sameName (part (now (text .entry)) a n) (part (now (text .entry)) b m) ⌝ }
+    ensures { λ r. ⌜ r ≡ same (part (now (text .entry)) a n) (part (now (text .entry)) b m) ⌝ }
 {
     if n != m {
         return false;

@@ -8,8 +8,8 @@ use lib.ListN.{length, getD, take, drop, length-drop, length-append}
 use lib.Seq.{take-at}
 use Rattle.language.specs.Core.{Function, Program}
 use Rattle.processor.specs.Image.{longest-code}
-use Rattle.flat.specs.Statements.{flats}
-use Rattle.flat.specs.Words.{wordsOf, wordsThen, entries, bodies, entry, blockLength}
+use Rattle.flat.specs.Words.{wordsOf, wordsThen, bodies, entry}
+use Rattle.flat.proofs.Run.{entries-long}
 use Rattle.codegen.specs.Image.{image}
 use Rattle.elaboration.proofs.Accepted.{accepted}
 use Rattle.elaboration.proofs.Kept.{kept}
@@ -27,11 +27,6 @@ unfolding wordsOf
 words-are {n = n} m = ap (take n) (m .there) ∙ take-at (wordsOf (m .program)) (m .more) n (sym (m .size))
 
 -- a program has four words for each function, and so fewer functions than words
-entries-long : (gs : List Function) (place : ℕ) (more : List ℕ) → length (entries gs place more) ≡ 4 * length gs + length more
-unfolding entries
-entries-long [] place more = omega arith
-entries-long (g ∷ gs) place more = omega (arith, entries-long gs (place + blockLength (flats (g .body))) more)
-
 few : (p : Program) → 3 + 4 * length (p .functions) ≤ length (wordsOf p)
 unfolding wordsOf wordsThen
 few p = omega (arith, entries-long (p .functions) (entry (length (p .functions))) (bodies (p .functions) []))

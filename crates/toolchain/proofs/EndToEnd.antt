@@ -22,7 +22,7 @@ use Rattle.processor.specs.declared.Status.the-variants.{Exit, Trap, Fault, Lim
 use Rattle.processor.specs.Machine.{data-start, memory-bytes, startOf}
 use Rattle.processor.specs.Run as M
 use Rattle.processor.specs.Image.{runImage, arraysOf, longest-code, longest-input}
-use Rattle.processor.proofs.Kept.{Keeps}
+use Rattle.processor.proofs.Kept.{After}
 use Rattle.processor.proofs.Laws.{run-keeps}
 use Rattle.processor.proofs.Start.{start-length}
 use Rattle.interpreter.specs.declared.Ran as I
@@ -129,7 +129,7 @@ module _ (text input : List ℕ) (room : ℕ) (bytes : Below 256 input) (p : Pro
     memory-size : length (ran .machine .memory) ≡ memory-bytes
     unfolding runImage startOf
     memory-size =
-        let kept : Keeps _ (ran .machine) = run-keeps (length (image p)) room limit _ 0 in
+        let kept : After _ (ran .machine) = run-keeps (length (image p)) room limit _ 0 in
         kept .memory-length ∙ start-length (image p) (bytesOfWords arrays) short (few (accepted text p program .0 .few-elements))
       where
         few : p .elements ≤ 16384 → length (bytesOfWords arrays) ≤ longest-input

@@ -8,7 +8,7 @@ use Rattle.processor.specs.declared.Status.{Status}
 use Rattle.processor.specs.Machine.{Machine, state, memory-bytes, register-count, zeros, startOf, startMemory}
 use Rattle.processor.specs.Run.{Run, runOf, onward}
 use Rattle.processor.specs.Image.{longest-code, longest-input, runImage}
-use Rattle.processor.proofs.Kept.{Keeps}
+use Rattle.processor.proofs.Kept.{After}
 use Rattle.processor.proofs.Laws.{run-keeps, run-add}
 use Rattle.processor.proofs.Start.{start-length}
 use Rattle.emulator.specs.declared.run.Ended.{Ended}
@@ -45,6 +45,6 @@ pub one-run : (code input : List ℕ) (room a b : ℕ) (before after : Buffers) 
     → Holds (runImage code input room a) before after e → onward (length code) room b (stood e after) ≡ runImage code input room (a + b)
 unfolding runImage startOf zeros
 one-run code input room a b before after e hc hi h =
-    let kept : Keeps (startOf code input) (runImage code input room a .machine) = run-keeps (length code) room a (startOf code input) 0 in
+    let kept : After (startOf code input) (runImage code input room a .machine) = run-keeps (length code) room a (startOf code input) 0 in
     ap (onward (length code) room b) (stands-in (runImage code input room a) before after e (kept .registers-length ∙ length-replicate {A = ℕ} register-count 0) (kept .memory-length ∙ start-length code input hc hi) h)
     ∙ sym (run-add (length code) room a b (startOf code input) 0 refl)

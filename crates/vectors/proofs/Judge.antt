@@ -65,7 +65,7 @@ module _ (text arrays : List ℕ) (fuel room : ℕ) where
   ofTree (refused p) = unread
 
   unfoldable pub judge : Verdict
-  unfolding T.tokensOf T.readFrom T.also T.andThen T.tokenAt T.asSign T.numberAt T.nameAt T.orName T.find T.span T.decimal T.unpadded T.begins T.same T.starts T.all T.inName T.isDigit T.isLetter T.inComment T.isBlank T.allowed T.signs T.words T.bytes G.operators G.nth K.signKind K.wordKind K.kindOf P.kindIn P.placeIn P.nameOf P.nameIn P.numberOf P.numberIn P.levelIn P.meansIn P.levelOf P.meansOf P.most P.grow P.restOf P.exprsOf P.argsOf P.argumentsOf P.enclosedOf P.namedOf P.unaryOf P.primaryOf P.levelled P.exprOf P.indexOf P.callOf P.endedOf P.typeOf P.typedOf P.declareOf P.assignOf P.storeOf P.runOf P.changeOf P.returnOf P.emitOf P.whileOf P.elseOf P.ifOf P.stmtOf P.stmtsOf P.blockOf P.paramOf P.paramListOf P.paramsOf P.resultOf P.sizeOf P.arrayOf P.bodyOf P.functionOf P.itemOf P.itemsOf P.programOf P.faultAt P.answerOf P.treeIn P.treeOf R._>>=_ R.need R.found R.sameName R.globalOf R.localOf R.arrayOf R.functionOf R.declare R.declareAll R.mainOf R.want R.changed R.joined R.combined R.indexed R.fit R.called R.known R.expr R.exprs R.fresh R.leaves R.gives R.stmt R.block R.parameters R.isReturn R.endsInReturn R.functionFrom R.functionsFrom R.elaborate M.runOf M.bind M.begin M.apply M.operate M.read M.write M.fetch M.assign M.rounds M.append M.eval M.evals M.exec M.block M.back M.callAt W.addW W.subW W.mulW W.negW W.negative W.magnitude W.ltS W.quotS W.remS W.bitOf
+  unfolding T.tokensOf T.readFrom T.also T.andThen T.tokenAt T.asSign T.numberAt T.nameAt T.orName T.find T.span T.decimal T.unpadded T.begins T.same T.starts T.all T.inName T.isDigit T.isLetter T.inComment T.isBlank T.allowed T.signs T.words T.bytes G.operators G.nth K.signKind K.wordKind K.kindOf P.kindIn P.placeIn P.nameOf P.nameIn P.numberOf P.numberIn P.levelIn P.meansIn P.levelOf P.meansOf P.most P.grow P.restOf P.exprsOf P.argsOf P.argumentsOf P.enclosedOf P.namedOf P.unaryOf P.primaryOf P.levelled P.exprOf P.indexOf P.callOf P.endedOf P.typeOf P.typedOf P.declareOf P.assignOf P.storeOf P.runOf P.changeOf P.returnOf P.emitOf P.whileOf P.elseOf P.ifOf P.stmtOf P.stmtsOf P.blockOf P.paramOf P.paramListOf P.paramsOf P.resultOf P.sizeOf P.arrayOf P.bodyOf P.functionOf P.itemOf P.itemsOf P.programOf P.faultAt P.answerOf P.treeIn P.treeOf R._>>=_ R.need R.found R.globalOf R.localOf R.arrayOf R.functionOf R.declare R.declareAll R.mainOf R.want R.changed R.joined R.combined R.indexed R.fit R.called R.known R.expr R.exprs R.fresh R.leaves R.gives R.stmt R.block R.parameters R.isReturn R.endsInReturn R.functionFrom R.functionsFrom R.elaborate M.runOf M.bind M.begin M.apply M.operate M.read M.write M.fetch M.assign M.rounds M.append M.eval M.evals M.exec M.block M.back M.callAt W.addW W.subW W.mulW W.negW W.negative W.magnitude W.ltS W.quotS W.remS W.bitOf
   judge = ofTree (treeOf text)
 
   abbrev Means : Verdict → Type 0
