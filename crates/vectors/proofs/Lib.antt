@@ -1,2 +1,3 @@
+pub mod Endless
 pub mod Judge
 pub mod Vectors

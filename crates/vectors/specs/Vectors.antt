@@ -1,4 +1,6 @@
--- Document 01 §6, row by row and in its order: its texts, byte for byte, and what each does, by document 01 and on the panel's processor of document 03.
+-- Document 01 §6, row by row and in its order: its texts, and what each does, by document 01 and on the panel's processor of document 03.
+-- Texts G and Z, the bodies and the helpers are the document's, byte for byte. Ours are the frame `fn main() { .. }`, the texts that the document only describes ("no
+-- main"), and the arrays' contents at the start (the doors' 0 0, a's 0 0 0 and 5 5).
 use mathlib.Core.List.{List, [], _∷_, _++_}
 use mathlib.Core.Path.{_≡_}
 use Prim.Native.Nat.{ℕ, zero, suc, _-_, _^_}
@@ -7,7 +9,7 @@ use lib.ListN.{length}
 use Rattle.language.specs.Tokens.{bytes}
 use Rattle.language.specs.Text.{Unreadable, Broken}
 use Rattle.language.specs.Meaning.{trapped, outOfFuel, Outcome, finished, stopped}
-use Rattle.vectors.specs.Does.{Does}
+use Rattle.vectors.specs.Does.{Does, NeverStops}
 
 -- "one line per line, each ending in a line feed"
 unfoldable pub lines : List String → List ℕ
@@ -46,7 +48,7 @@ Z =
 abbrev pub minus : ℕ → ℕ
 minus n = 2 ^ 32 - n
 
--- a text with this body of main; and with helpers, on a line before it
+-- a text with this body of main; and with helpers, on a line before it: body and helpers are the document's, what stands around them is ours
 abbrev pub within : List ℕ → List ℕ
 within body = bytes "fn main() { " ++ (body ++ bytes " }")
 
@@ -97,6 +99,8 @@ pub record Vectors : Type 0 where
   pub row-63 : Runs (with "fn f(n: int): int { if n == 0 { return 0; } else { return 1 + f(n - 1); } }" "emit f(63);") [] (trap 3) [] [] 696
   -- "`while true { }` with fuel 1,000"
   pub row-endless : Runs (main "while true { }") [] (stopped outOfFuel) [] [] 1000
+  -- and on the panel's processor it never stops: `Goes-on` bounds the steps from below only past 65,536 units of fuel
+  pub row-endless-panel : NeverStops (main "while true { }")
   -- "Answer 1: `emit 2147483648;`, `emit 01;`, `emit 12a;`, a 33-character name, `if 1 < 2 < 3 { }`, 32 nested parentheses in main (31 are fine), `fn Main() { }`."
   pub too-large : Unreadable (main "emit 2147483648;")
   pub padded : Unreadable (main "emit 01;")
