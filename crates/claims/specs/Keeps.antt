@@ -72,7 +72,8 @@ module _ (costs : Costs) (p : Program) (image : List ℕ) where
         (limit : ℕ) → costs .K * used arrays fuel room + costs .K0 ≤ limit →
         Alike stop (source arrays fuel room) (machine arrays limit room) ×
         (machine arrays limit room .steps ≤ costs .K * used arrays fuel room + costs .K0)
-    -- A source run that is out of fuel: the machine is still running, with the same log and arrays, after some number of steps that is large where the fuel was.
+    -- A source run that is out of fuel: the machine is still running, with the same log and arrays, after some number of steps: at least
+    -- (fuel - C0) / C of them, and at most K * fuel + K0.
     pub goes-on : (arrays : List ℕ) (fuel room : ℕ) → Input p arrays → source arrays fuel room .outcome ≡ stopped outOfFuel →
         (limit : ℕ) × (fuel ≤ costs .C * limit + costs .C0) × (limit ≤ costs .K * fuel + costs .K0) ×
         Alike Limit (source arrays fuel room) (machine arrays limit room)

@@ -20,3 +20,14 @@ value-spare = 8
 
 abbrev pub answer-spare : ℕ
 answer-spare = 4
+
+-- What is there for a node's own code once its operands are done; for the second side of `&&` and `||`, and what joins it to the first; and for a call
+-- once its arguments are done.
+abbrev pub own-steps : ℕ
+own-steps = 64
+
+abbrev pub side-steps : ℕ
+side-steps = 96
+
+abbrev pub call-share : ℕ
+call-share = 120

@@ -29,7 +29,7 @@ use Rattle.language.specs.Rules.{most-parameters}
 use Rattle.codegen.specs.Owed.{nodes, nodesOf, count, nothing, Callable, Fits, FitsAll, Tests}
 use Rattle.codegen.proofs.Placement.{At, at-split, at-len}
 use Rattle.codegen.specs.Costs.{K}
-use Rattle.codegen.proofs.Budgets.{value-spare, answer-spare}
+use Rattle.codegen.proofs.Budgets.{value-spare, answer-spare, own-steps, side-steps, call-share}
 use Rattle.codegen.proofs.Logic.{Arrays, Setting, spent, Post, Sound, sound-rates, sound-bind, sound-bind′, sound-then, sound-then′, sound-post, sound-begin, sound-end, sound-pure, sound-ran, Ran, ran-none, ran-step, ran-trans, ran-most}
 use Rattle.codegen.proofs.Frame.{Same, only-same, same-join, valueAt, There, Stable, value-same}
 use Rattle.codegen.proofs.Macros.{fetch-ok, put-ok, skip-ok}
@@ -95,7 +95,7 @@ module _ (L : Linked) (A : Activation L) where
       → ExprIn (λ ls w. bind (begin ls w) (λ _ ls w. bind (m ls w) (λ k. read a k))) (suc z) d p q (temporary d)
   element-in m a z d p r q pl hf hd ha I hc = record {
     run = λ ls w σ on hp c. sound-begin S ls w _ on (c .log-is) (c .arrays) (λ f e.
-        sound-bind S {z2 = 0} 64 (omega arith) (omega arith) (omega arith) (I .run ls (spent f w) σ on hp (core-spent L A f c))
+        sound-bind S {z2 = 0} own-steps (omega arith) (omega arith) (omega arith) (I .run ls (spent f w) σ on hp (core-spent L A f c))
         (λ k ls2 w2 τ Q. sound-rates S (read a k ls2 w2) (omega arith) (omega arith)
         (reads L A a k d r q (w .fuel) pl ls ls2 w2 σ τ hd (there L A pl d hf) ha (ready (omega arith) Q) (Q .here) (Q .is) hc)));
   }
@@ -105,7 +105,7 @@ module _ (L : Linked) (A : Activation L) where
       → ExprIn (λ ls w. bind (begin ls w) (λ _ ls w. bind (m ls w) (λ x. gives (apply o x)))) (suc z) d p q (result o pl d)
   unary-in m o z d p r q pl hf hd I hc = record {
     run = λ ls w σ on hp c. sound-begin S ls w _ on (c .log-is) (c .arrays) (λ f e.
-        sound-bind S {z2 = 0} 64 (omega arith) (omega arith) (omega arith) (I .run ls (spent f w) σ on hp (core-spent L A f c))
+        sound-bind S {z2 = 0} own-steps (omega arith) (omega arith) (omega arith) (I .run ls (spent f w) σ on hp (core-spent L A f c))
         (λ k ls2 w2 τ Q. sound-rates S (goes (apply o k) ls2 w2) (omega arith) (omega arith)
         (applies L A o k d r q (w .fuel) pl ls ls2 w2 σ τ hd (there L A pl d hf) (ready (omega arith) Q) (Q .here) (Q .is) hc)));
   }
@@ -114,12 +114,12 @@ module _ (L : Linked) (A : Activation L) where
   sides-in : (ma mb : Act ℕ) (g : ℕ → ℕ → Act ℕ) (R : State → List ℕ → ℕ → Post ℕ) (za zb d p r u : ℕ) (pa pb : Place) → Fit L A pa d → Fit L A pb (above pa d)
       → ExprIn ma za d p r pa → ExprIn mb zb (above pa d) r u pb
       → ((x y f : ℕ) (ls₀ ls : List ℕ) (w : World) (σ ρ : State) → Ready L A σ d ls₀ f ls w ρ → ρ .pc ≡ u → valueAt pa B ρ ≡ x → valueAt pb B ρ ≡ y
-      → Sound S (g x y ls w) (K * w .fuel + 64) (w .fuel) 0 (R σ ls₀ f) ρ)
+      → Sound S (g x y ls w) (K * w .fuel + own-steps) (w .fuel) 0 (R σ ls₀ f) ρ)
       → (ls : List ℕ) (w : World) (σ : State) → σ .status ≡ Going → σ .pc ≡ p → Cor L A ls w σ
       → Sound S (bind (begin ls w) (λ _ ls w. bind (ma ls w) (λ x ls w. bind (mb ls w) (λ y. g x y)))) (K * w .fuel - value-spare) (w .fuel) (suc (za + zb)) (R σ ls (w .fuel)) σ
   sides-in ma mb g R za zb d p r u pa pb fa fb I J last ls w σ on hp c = sound-begin S ls w _ on (c .log-is) (c .arrays) (λ f e.
-      sound-bind S {z2 = zb} 64 (omega arith) (omega arith) (omega arith) (I .run ls (spent f w) σ on hp (core-spent L A f c))
-      (λ x ls2 w2 τ Q. sound-bind S {z2 = 0} 64 (omega arith) (omega arith) (omega arith) (J .run ls2 w2 τ (Q .on) (Q .here) (Q .cor))
+      sound-bind S {z2 = zb} own-steps (omega arith) (omega arith) (omega arith) (I .run ls (spent f w) σ on hp (core-spent L A f c))
+      (λ x ls2 w2 τ Q. sound-bind S {z2 = 0} own-steps (omega arith) (omega arith) (omega arith) (J .run ls2 w2 τ (Q .on) (Q .here) (Q .cor))
       (λ y ls3 w3 ρ Z. last x y (w .fuel) ls ls3 w3 σ ρ (record {
         on = Z .on;
         cor = Z .cor;
@@ -147,7 +147,7 @@ module _ (L : Linked) (A : Activation L) where
     run = λ ls w σ on hp cr.
         sound-rates S _ (omega arith) (omega arith)
         (sides-in ma mb (operate o) (λ σ ls₀ f. CondPost L A t σ d q k ls₀ f) za zb d p r u pa pb fa fb I J
-        (λ x y f ls₀ ls w σ ρ Y hp hx hy. subst (λ (v : Result ℕ). Sound S v (K * w .fuel + 64) (w .fuel) 0 (CondPost L A t σ d q k ls₀ f) ρ) (sym (e x y ls w))
+        (λ x y f ls₀ ls w σ ρ Y hp hx hy. subst (λ (v : Result ℕ). Sound S v (K * w .fuel + own-steps) (w .fuel) 0 (CondPost L A t σ d q k ls₀ f) ρ) (sym (e x y ls w))
         (compares L A c turned t (A .near) x y d (suc (above pa d)) u q k f pa pb ls₀ ls w σ ρ (there L A pa d fa) (there L A pb (above pa d) fb)
         (let k : d ≤ above pa d = above-le L A pa d in omega (arith, k)) (stable L A pb (above pa d) (suc (above pa d)) fb (omega arith)) Y hp hx hy hc)) ls w σ on hp cr);
   }
@@ -203,7 +203,7 @@ module _ (L : Linked) (A : Activation L) where
       → CondIn (λ ls w. bind (begin ls w) (λ _ ls w. bind (m ls w) (λ x. gives (apply T.not x)))) (suc z) t d p q k
   not-in m t z d p q k I = record {
     run = λ ls w σ on hp c. sound-begin S ls w _ on (c .log-is) (c .arrays) (λ f e.
-        sound-bind S {z2 = 0} 96 (omega arith) (omega arith) (omega arith) (I .run ls (spent f w) σ on hp (core-spent L A f c))
+        sound-bind S {z2 = 0} side-steps (omega arith) (omega arith) (omega arith) (I .run ls (spent f w) σ on hp (core-spent L A f c))
         (λ x ls2 w2 τ Q. sound-end S (omega arith) (omega arith) (record {
           on = Q .on;
           here = Q .here ∙ aim-not L A t x q k;
@@ -217,7 +217,7 @@ module _ (L : Linked) (A : Activation L) where
   -- the right side is a condition too
   right-cond : (mb : Act ℕ) (t : Bool) (zb d r q k f : ℕ) (ls₀ ls : List ℕ) (w : World) (σ τ : State) → CondIn mb zb t d r q k
       → τ .status ≡ Going → τ .pc ≡ r → Cor L A ls w τ → ((j : ℕ) → j < d → valueAt (temporary j) B τ ≡ valueAt (temporary j) B σ) → ls ≡ ls₀ → w .fuel < f
-      → Sound S (mb ls w) (K * w .fuel + 96) (w .fuel) zb (CondPost L A t σ d q k ls₀ f) τ
+      → Sound S (mb ls w) (K * w .fuel + side-steps) (w .fuel) zb (CondPost L A t σ d q k ls₀ f) τ
   right-cond mb t zb d r q k f ls₀ ls w σ τ J on hp c hk he hl =
       sound-rates S (mb ls w) (omega arith) (omega arith) (sound-post S (mb ls w)
       (λ v ls3 w3 ρ Z. record { on = Z .on; here = Z .here; cor = Z .cor; keep = λ j h. Z .keep j h ∙ hk j h; locals = Z .locals ∙ he; less = omega (arith, Z .less) })
@@ -226,7 +226,7 @@ module _ (L : Linked) (A : Activation L) where
   -- the left side has decided
   decided : (t : Bool) (v d q k f : ℕ) (ls₀ ls : List ℕ) (w : World) (σ τ : State) {zb : ℕ} → τ .status ≡ Going → τ .pc ≡ aim L A t v q k → Cor L A ls w τ
       → ((j : ℕ) → j < d → valueAt (temporary j) B τ ≡ valueAt (temporary j) B σ) → ls ≡ ls₀ → w .fuel < f
-      → Sound S (goes v ls w) (K * w .fuel + 96) (w .fuel) zb (CondPost L A t σ d q k ls₀ f) τ
+      → Sound S (goes v ls w) (K * w .fuel + side-steps) (w .fuel) zb (CondPost L A t σ d q k ls₀ f) τ
   decided t v d q k f ls₀ ls w σ τ on hp c hk he hl =
       sound-end S (omega arith) (omega arith) (record { on = on; here = hp; cor = c; keep = hk; locals = he; less = hl })
 
@@ -235,12 +235,12 @@ module _ (L : Linked) (A : Activation L) where
       → CondIn (λ ls w. bind (begin ls w) (λ _ ls w. bind (ma ls w) (λ x. branch x mb (gives 0)))) (suc (za + zb)) false d p q k
   and-false ma mb za zb d p r q n k hn hr I J = record {
     run = λ ls w σ on hp c. sound-begin S ls w _ on (c .log-is) (c .arrays) (λ f e.
-        sound-bind S {z2 = zb} 96 (omega arith) (omega arith) (omega arith) (I .run ls (spent f w) σ on hp (core-spent L A f c))
+        sound-bind S {z2 = zb} side-steps (omega arith) (omega arith) (omega arith) (I .run ls (spent f w) σ on hp (core-spent L A f c))
         (λ x ls2 w2 τ Q. go x ls ls2 w2 (w .fuel) f σ τ (omega arith) Q));
   }
     where
       go : (x : ℕ) (ls ls2 : List ℕ) (w2 : World) (g f : ℕ) (σ τ : State) → f ≤ g → CondPost L A false σ d r n ls f x ls2 w2 τ
-          → Sound S (branch x mb (gives 0) ls2 w2) (K * w2 .fuel + 96) (w2 .fuel) zb (CondPost L A false σ d q k ls g) τ
+          → Sound S (branch x mb (gives 0) ls2 w2) (K * w2 .fuel + side-steps) (w2 .fuel) zb (CondPost L A false σ d q k ls g) τ
       go zero ls ls2 w2 g f σ τ hg Q = decided false 0 d q k g ls ls2 w2 σ τ (Q .on) (Q .here ∙ (let y : r + n ≡ q + k = omega arith in y)) (Q .cor) (Q .keep) (Q .locals) (omega (arith, Q .less))
       go (suc x) ls ls2 w2 g f σ τ hg Q = right-cond mb false zb d r q k g ls ls2 w2 σ τ J (Q .on) (Q .here) (Q .cor) (Q .keep) (Q .locals) (omega (arith, Q .less))
 
@@ -249,12 +249,12 @@ module _ (L : Linked) (A : Activation L) where
       → CondIn (λ ls w. bind (begin ls w) (λ _ ls w. bind (ma ls w) (λ x. branch x mb (gives 0)))) (suc (za + zb)) true d p q k
   and-true ma mb za zb d p r q n k hn hr I J = record {
     run = λ ls w σ on hp c. sound-begin S ls w _ on (c .log-is) (c .arrays) (λ f e.
-        sound-bind S {z2 = zb} 96 (omega arith) (omega arith) (omega arith) (I .run ls (spent f w) σ on hp (core-spent L A f c))
+        sound-bind S {z2 = zb} side-steps (omega arith) (omega arith) (omega arith) (I .run ls (spent f w) σ on hp (core-spent L A f c))
         (λ x ls2 w2 τ Q. go x ls ls2 w2 (w .fuel) f σ τ (omega arith) Q));
   }
     where
       go : (x : ℕ) (ls ls2 : List ℕ) (w2 : World) (g f : ℕ) (σ τ : State) → f ≤ g → CondPost L A false σ d r n ls f x ls2 w2 τ
-          → Sound S (branch x mb (gives 0) ls2 w2) (K * w2 .fuel + 96) (w2 .fuel) zb (CondPost L A true σ d q k ls g) τ
+          → Sound S (branch x mb (gives 0) ls2 w2) (K * w2 .fuel + side-steps) (w2 .fuel) zb (CondPost L A true σ d q k ls g) τ
       go zero ls ls2 w2 g f σ τ hg Q = decided true 0 d q k g ls ls2 w2 σ τ (Q .on) (Q .here ∙ (let y : r + n ≡ q = omega arith in y)) (Q .cor) (Q .keep) (Q .locals) (omega (arith, Q .less))
       go (suc x) ls ls2 w2 g f σ τ hg Q = right-cond mb true zb d r q k g ls ls2 w2 σ τ J (Q .on) (Q .here) (Q .cor) (Q .keep) (Q .locals) (omega (arith, Q .less))
 
@@ -263,12 +263,12 @@ module _ (L : Linked) (A : Activation L) where
       → CondIn (λ ls w. bind (begin ls w) (λ _ ls w. bind (ma ls w) (λ x. branch x (gives 1) mb))) (suc (za + zb)) true d p q k
   or-true ma mb za zb d p r q n k hn hr I J = record {
     run = λ ls w σ on hp c. sound-begin S ls w _ on (c .log-is) (c .arrays) (λ f e.
-        sound-bind S {z2 = zb} 96 (omega arith) (omega arith) (omega arith) (I .run ls (spent f w) σ on hp (core-spent L A f c))
+        sound-bind S {z2 = zb} side-steps (omega arith) (omega arith) (omega arith) (I .run ls (spent f w) σ on hp (core-spent L A f c))
         (λ x ls2 w2 τ Q. go x ls ls2 w2 (w .fuel) f σ τ (omega arith) Q));
   }
     where
       go : (x : ℕ) (ls ls2 : List ℕ) (w2 : World) (g f : ℕ) (σ τ : State) → f ≤ g → CondPost L A true σ d r n ls f x ls2 w2 τ
-          → Sound S (branch x (gives 1) mb ls2 w2) (K * w2 .fuel + 96) (w2 .fuel) zb (CondPost L A true σ d q k ls g) τ
+          → Sound S (branch x (gives 1) mb ls2 w2) (K * w2 .fuel + side-steps) (w2 .fuel) zb (CondPost L A true σ d q k ls g) τ
       go zero ls ls2 w2 g f σ τ hg Q = right-cond mb true zb d r q k g ls ls2 w2 σ τ J (Q .on) (Q .here) (Q .cor) (Q .keep) (Q .locals) (omega (arith, Q .less))
       go (suc x) ls ls2 w2 g f σ τ hg Q = decided true 1 d q k g ls ls2 w2 σ τ (Q .on) (Q .here ∙ (let y : r + n ≡ q + k = omega arith in y)) (Q .cor) (Q .keep) (Q .locals) (omega (arith, Q .less))
 
@@ -277,12 +277,12 @@ module _ (L : Linked) (A : Activation L) where
       → CondIn (λ ls w. bind (begin ls w) (λ _ ls w. bind (ma ls w) (λ x. branch x (gives 1) mb))) (suc (za + zb)) false d p q k
   or-false ma mb za zb d p r q n k hn hr I J = record {
     run = λ ls w σ on hp c. sound-begin S ls w _ on (c .log-is) (c .arrays) (λ f e.
-        sound-bind S {z2 = zb} 96 (omega arith) (omega arith) (omega arith) (I .run ls (spent f w) σ on hp (core-spent L A f c))
+        sound-bind S {z2 = zb} side-steps (omega arith) (omega arith) (omega arith) (I .run ls (spent f w) σ on hp (core-spent L A f c))
         (λ x ls2 w2 τ Q. go x ls ls2 w2 (w .fuel) f σ τ (omega arith) Q));
   }
     where
       go : (x : ℕ) (ls ls2 : List ℕ) (w2 : World) (g f : ℕ) (σ τ : State) → f ≤ g → CondPost L A true σ d r n ls f x ls2 w2 τ
-          → Sound S (branch x (gives 1) mb ls2 w2) (K * w2 .fuel + 96) (w2 .fuel) zb (CondPost L A false σ d q k ls g) τ
+          → Sound S (branch x (gives 1) mb ls2 w2) (K * w2 .fuel + side-steps) (w2 .fuel) zb (CondPost L A false σ d q k ls g) τ
       go zero ls ls2 w2 g f σ τ hg Q = right-cond mb false zb d r q k g ls ls2 w2 σ τ J (Q .on) (Q .here) (Q .cor) (Q .keep) (Q .locals) (omega (arith, Q .less))
       go (suc x) ls ls2 w2 g f σ τ hg Q = decided false 1 d q k g ls ls2 w2 σ τ (Q .on) (Q .here ∙ (let y : r + n ≡ q = omega arith in y)) (Q .cor) (Q .keep) (Q .locals) (omega (arith, Q .less))
 
@@ -311,7 +311,7 @@ module _ (L : Linked) (A : Activation L) where
   left-value : (v d p q f : ℕ) (ls₀ ls : List ℕ) (w : World) (σ τ : State) {zb : ℕ} → d < most-temporaries → aluOf Add 0 v ≡ v → At (S .code) p (settle v d) q
       → τ .status ≡ Going → τ .pc ≡ p → Cor L A ls w τ
       → ((j : ℕ) → j < d → valueAt (temporary j) B τ ≡ valueAt (temporary j) B σ) → ls ≡ ls₀ → w .fuel < f
-      → Sound S (goes v ls w) (K * w .fuel + 96) (w .fuel) zb (ExprPost L A σ d q (temporary d) ls₀ f) τ
+      → Sound S (goes v ls w) (K * w .fuel + side-steps) (w .fuel) zb (ExprPost L A σ d q (temporary d) ls₀ f) τ
   left-value v d p q f ls₀ ls w σ τ hd hv hc on hp c hk he hl =
       let h = put-ok S d v p q (opi Add (target d) x0 v) τ (framed L A) hd (c .sp-is) hc on hp (ap (λ (n : ℕ). puts (target d) n τ) hv) in
       sound-ran S 2 (omega arith) (h .1)
@@ -321,7 +321,7 @@ module _ (L : Linked) (A : Activation L) where
   right-over : (mb : Act ℕ) (zb d r u v q j f : ℕ) (pl : Place) (ls₀ ls : List ℕ) (w : World) (σ τ : State) → Fit L A pl d → d < most-temporaries → ExprIn mb zb d r u pl
       → At (S .code) u (move pl d) v → getD (S .code) v bad ≡ jump j → v + j ≡ q → τ .status ≡ Going → τ .pc ≡ r → Cor L A ls w τ
       → ((j : ℕ) → j < d → valueAt (temporary j) B τ ≡ valueAt (temporary j) B σ) → ls ≡ ls₀ → w .fuel < f
-      → Sound S (mb ls w) (K * w .fuel + 96) (w .fuel) zb (ExprPost L A σ d q (temporary d) ls₀ f) τ
+      → Sound S (mb ls w) (K * w .fuel + side-steps) (w .fuel) zb (ExprPost L A σ d q (temporary d) ls₀ f) τ
   right-over mb zb d r u v q j f pl ls₀ ls w σ τ hf hd J hm hj hq on hp c hk he hl =
       sound-then S {z2 = 0} (mb ls w) 5 (omega arith) (omega arith) (omega arith) (J .run ls w τ on hp c)
       (λ x ls3 w3 ρ Z.
@@ -341,12 +341,12 @@ module _ (L : Linked) (A : Activation L) where
       → ExprIn (λ ls w. bind (begin ls w) (λ _ ls w. bind (ma ls w) (λ x. branch x mb (gives 0)))) (suc (za + zb)) d p q (temporary d)
   and-in ma mb za zb d p s u v q n j pl hf hd hn hs hq I J hm hj hc = record {
     run = λ ls w σ on hp c. sound-begin S ls w _ on (c .log-is) (c .arrays) (λ f e.
-        sound-bind S {z2 = zb} 96 (omega arith) (omega arith) (omega arith) (I .run ls (spent f w) σ on hp (core-spent L A f c))
+        sound-bind S {z2 = zb} side-steps (omega arith) (omega arith) (omega arith) (I .run ls (spent f w) σ on hp (core-spent L A f c))
         (λ x ls2 w2 τ Q. go x ls ls2 w2 (w .fuel) f σ τ (omega arith) Q));
   }
     where
       go : (x : ℕ) (ls ls2 : List ℕ) (w2 : World) (g f : ℕ) (σ τ : State) → f ≤ g → CondPost L A false σ d s n ls f x ls2 w2 τ
-          → Sound S (branch x mb (gives 0) ls2 w2) (K * w2 .fuel + 96) (w2 .fuel) zb (ExprPost L A σ d q (temporary d) ls g) τ
+          → Sound S (branch x mb (gives 0) ls2 w2) (K * w2 .fuel + side-steps) (w2 .fuel) zb (ExprPost L A σ d q (temporary d) ls g) τ
       go zero ls ls2 w2 g f σ τ hg Q =
           left-value 0 d (suc v) q g ls ls2 w2 σ τ hd zero-is hc (Q .on) (Q .here ∙ (let y : s + n ≡ suc v = omega arith in y)) (Q .cor) (Q .keep) (Q .locals) (omega (arith, Q .less))
       go (suc x) ls ls2 w2 g f σ τ hg Q =
@@ -357,12 +357,12 @@ module _ (L : Linked) (A : Activation L) where
       → ExprIn (λ ls w. bind (begin ls w) (λ _ ls w. bind (ma ls w) (λ x. branch x (gives 1) mb))) (suc (za + zb)) d p q (temporary d)
   or-in ma mb za zb d p s u v q n j pl hf hd hn hs hq I J hm hj hc = record {
     run = λ ls w σ on hp c. sound-begin S ls w _ on (c .log-is) (c .arrays) (λ f e.
-        sound-bind S {z2 = zb} 96 (omega arith) (omega arith) (omega arith) (I .run ls (spent f w) σ on hp (core-spent L A f c))
+        sound-bind S {z2 = zb} side-steps (omega arith) (omega arith) (omega arith) (I .run ls (spent f w) σ on hp (core-spent L A f c))
         (λ x ls2 w2 τ Q. go x ls ls2 w2 (w .fuel) f σ τ (omega arith) Q));
   }
     where
       go : (x : ℕ) (ls ls2 : List ℕ) (w2 : World) (g f : ℕ) (σ τ : State) → f ≤ g → CondPost L A true σ d s n ls f x ls2 w2 τ
-          → Sound S (branch x (gives 1) mb ls2 w2) (K * w2 .fuel + 96) (w2 .fuel) zb (ExprPost L A σ d q (temporary d) ls g) τ
+          → Sound S (branch x (gives 1) mb ls2 w2) (K * w2 .fuel + side-steps) (w2 .fuel) zb (ExprPost L A σ d q (temporary d) ls g) τ
       go zero ls ls2 w2 g f σ τ hg Q =
           right-over mb zb d s u v q j g pl ls ls2 w2 σ τ hf hd J hm hj hq (Q .on) (Q .here) (Q .cor) (Q .keep) (Q .locals) (omega (arith, Q .less))
       go (suc x) ls ls2 w2 g f σ τ hg Q =
@@ -412,7 +412,7 @@ module _ (L : Linked) (A : Activation L) where
       → ExprIn (λ ls w. bind (begin ls w) (λ _ ls w. bind (m ls w) (λ vs. callAt (S .room) (L .functions) (A .left) f vs))) (suc z) d p q (temporary d)
   call-in m f z d p r s q ps hd hf har few I hc hm = record {
     run = λ ls w σ on hp c. sound-begin S ls w _ on (c .log-is) (c .arrays) (λ g e.
-        sound-bind S {z2 = 0} 120 (omega arith) (omega arith) (omega arith) (I .run ls (spent g w) σ on hp (core-spent L A g c))
+        sound-bind S {z2 = 0} call-share (omega arith) (omega arith) (omega arith) (I .run ls (spent g w) σ on hp (core-spent L A g c))
         (λ vs ls2 w2 τ Q. sound-then S {z2 = 0} (callAt (S .room) (L .functions) (A .left) f vs ls2 w2) 2 (omega arith) (omega arith) (omega arith)
         (calls L A f vs ps d r s ls2 w2 τ (omega arith) (Q .on) (Q .here) (Q .cor) (Q .held) hf har few hc)
         (λ v ls3 w3 ρ Z.
@@ -428,7 +428,7 @@ module _ (L : Linked) (A : Activation L) where
       → CondIn (λ ls w. bind (begin ls w) (λ _ ls w. bind (m ls w) (λ vs. callAt (S .room) (L .functions) (A .left) f vs))) (suc z) t d p q k
   tested-call m f t z d p r s q k ps hd hf har few I hc hm = record {
     run = λ ls w σ on hp c. sound-begin S ls w _ on (c .log-is) (c .arrays) (λ g e.
-        sound-bind S {z2 = 0} 120 (omega arith) (omega arith) (omega arith) (I .run ls (spent g w) σ on hp (core-spent L A g c))
+        sound-bind S {z2 = 0} call-share (omega arith) (omega arith) (omega arith) (I .run ls (spent g w) σ on hp (core-spent L A g c))
         (λ vs ls2 w2 τ Q. sound-then S {z2 = 0} (callAt (S .room) (L .functions) (A .left) f vs ls2 w2) 2 (omega arith) (omega arith) (omega arith)
         (calls L A f vs ps d r s ls2 w2 τ (omega arith) (Q .on) (Q .here) (Q .cor) (Q .held) hf har few hc)
         (λ v ls3 w3 ρ Z.

@@ -28,6 +28,7 @@ use Rattle.codegen.specs.Places.{Place, constant, local, temporary, abov
 use Rattle.codegen.specs.Operators.{stub, opposite, skip, Work, plain, divided, tested, work, left, right, working, withConstant, immediate, operatingBy, operating, result, alone, applying, relation, sense, comparing, testing, always, address, locate, offset, reading}
 use Rattle.codegen.proofs.Placement.{At, at-split, at-len}
 use Rattle.codegen.specs.Costs.{K, C}
+use Rattle.codegen.proofs.Budgets.{own-steps}
 use Rattle.codegen.proofs.Logic.{Arrays, Setting, spent, Post, Sound, sound-rates, sound-then, sound-then′, sound-end, sound-ran, Ran, ran-none, ran-step, ran-trans, ran-most}
 use Rattle.codegen.proofs.Numbers.{add-none, add-is, in-data, opposite-is}
 use Rattle.codegen.proofs.Frame.{Framed, Only, Same, only-same, same-trans, same-join, same-less, valueAt, There, Stable, value-same}
@@ -261,10 +262,10 @@ module _ (L : Linked) (A : Activation L) where
   -- an operator's code, with the right side in a register
   generally : (o : Strict) (x y d e p q f : ℕ) (pa pb : Place) (ls₀ ls : List ℕ) (w : World) (σ ρ : State) → d < most-temporaries → There pa → There pb → d ≤ e → Stable pb e
       → Ready σ d ls₀ f ls w ρ → ρ .pc ≡ p → valueAt pa B ρ ≡ x → valueAt pb B ρ ≡ y → At (S .code) p (operatingBy none o pa pb d) q
-      → Sound S (operate o x y ls w) (K * w .fuel + 64) (w .fuel) 0 (ExprPost L A σ d q (temporary d) ls₀ f) ρ
+      → Sound S (operate o x y ls w) (K * w .fuel + own-steps) (w .fuel) 0 (ExprPost L A σ d q (temporary d) ls₀ f) ρ
   generally o x y d e p q f pa pb ls₀ ls w σ ρ hd ta tb he sb Y hp hx hy hc =
       let g = brings pa pb d e p q (working (work o) (source pa 0) (source pb 1) d) ρ ta tb he sb (Y .cor .sp-is) hc (Y .on) hp in
-      subst (λ (r : Result ℕ). Sound S r (K * w .fuel + 64) (w .fuel) 0 (ExprPost L A σ d q (temporary d) ls₀ f) ρ) (sym (work-is o x y ls w))
+      subst (λ (r : Result ℕ). Sound S r (K * w .fuel + own-steps) (w .fuel) 0 (ExprPost L A σ d q (temporary d) ls₀ f) ρ) (sym (work-is o x y ls w))
       (sound-ran S 4 (omega arith) (g .ran) (sound-rates S (worked (work o) x y ls w) (omega arith) (omega arith)
       (works (work o) x y d (g .at) q f (source pa 0) (source pb 1) ls₀ ls w σ ρ (g .to) hd Y (g .same) (g .left-is ∙ hx) (g .right-is ∙ hy) (g .rest))))
 
@@ -272,7 +273,7 @@ module _ (L : Linked) (A : Activation L) where
   immediately : (r : Result ℕ) (k : Alu) (m x d p q f : ℕ) (pa : Place) (ls₀ ls : List ℕ) (w : World) (σ ρ : State) → d < most-temporaries → There pa
       → Ready σ d ls₀ f ls w ρ → ρ .pc ≡ p → valueAt pa B ρ ≡ x → r ≡ goes (aluOf k x m) ls w
       → At (S .code) p (fetch pa 0 ++ (opi k (target d) (source pa 0) m ∷ keep d)) q
-      → Sound S r (K * w .fuel + 64) (w .fuel) 0 (ExprPost L A σ d q (temporary d) ls₀ f) ρ
+      → Sound S r (K * w .fuel + own-steps) (w .fuel) 0 (ExprPost L A σ d q (temporary d) ls₀ f) ρ
   immediately r k m x d p q f pa ls₀ ls w σ ρ hd ta Y hp hx er hc =
       let t = at-split (S .code) p (fetch pa 0) _ q hc in
       let h = fetch-ok S pa 0 p (t .0) ρ (framed L A) ta (Y .cor .sp-is) (t .1) (Y .on) hp in
@@ -280,31 +281,31 @@ module _ (L : Linked) (A : Activation L) where
       let c = core-same L A (Y .cor) G in
       let g = put-ok S d (aluOf k x m) (t .0) q _ (h .0) (framed L A) hd (c .sp-is) (t .2) (G .on) (G .here)
       (ap (λ (v : ℕ). puts (target d) (aluOf k v m) (h .0)) (h .3 ∙ hx)) in
-      subst (λ (r : Result ℕ). Sound S r (K * w .fuel + 64) (w .fuel) 0 (ExprPost L A σ d q (temporary d) ls₀ f) ρ) (sym er)
+      subst (λ (r : Result ℕ). Sound S r (K * w .fuel + own-steps) (w .fuel) 0 (ExprPost L A σ d q (temporary d) ls₀ f) ρ) (sym er)
       (sound-ran S 4 (omega arith) (ran-trans S (h .1) (g .1))
       (sound-end S (omega arith) (omega arith) (finish L A (Y .cor) (same-join G (g .2)) (g .3) (Y .keep) (Y .locals) (Y .less))))
 
   pub operates : (o : Strict) (x y d e p q f : ℕ) (pa pb : Place) (ls₀ ls : List ℕ) (w : World) (σ ρ : State) → d < most-temporaries → There pa → There pb → d ≤ e → Stable pb e
       → Ready σ d ls₀ f ls w ρ → ρ .pc ≡ p → valueAt pa B ρ ≡ x → valueAt pb B ρ ≡ y → At (S .code) p (operating o pa pb d) q
-      → Sound S (operate o x y ls w) (K * w .fuel + 64) (w .fuel) 0 (ExprPost L A σ d q (temporary d) ls₀ f) ρ
+      → Sound S (operate o x y ls w) (K * w .fuel + own-steps) (w .fuel) 0 (ExprPost L A σ d q (temporary d) ls₀ f) ρ
   operates o x y d e p q f pa (local z) ls₀ ls w σ ρ hd ta tb he sb Y hp hx hy hc = generally o x y d e p q f pa (local z) ls₀ ls w σ ρ hd ta tb he sb Y hp hx hy hc
   operates o x y d e p q f pa (temporary j) ls₀ ls w σ ρ hd ta tb he sb Y hp hx hy hc = generally o x y d e p q f pa (temporary j) ls₀ ls w σ ρ hd ta tb he sb Y hp hx hy hc
   operates add x y d e p q f pa (constant n) ls₀ ls w σ ρ hd ta tb he sb Y hp hx hy hc = go (short n) hc
     where
       go : (t : Bool) → At (S .code) p (operatingBy (pick t (some (Add, n)) none) add pa (constant n) d) q
-          → Sound S (operate add x y ls w) (K * w .fuel + 64) (w .fuel) 0 (ExprPost L A σ d q (temporary d) ls₀ f) ρ
+          → Sound S (operate add x y ls w) (K * w .fuel + own-steps) (w .fuel) 0 (ExprPost L A σ d q (temporary d) ls₀ f) ρ
       go true hc = immediately (operate add x y ls w) Add n x d p q f pa ls₀ ls w σ ρ hd ta Y hp hx (add-constant x y n ls w hy) hc
       go false hc = generally add x y d e p q f pa (constant n) ls₀ ls w σ ρ hd ta tb he sb Y hp hx hy hc
   operates sub x y d e p q f pa (constant n) ls₀ ls w σ ρ hd ta tb he sb Y hp hx hy hc = go (short (negW n)) hc
     where
       go : (t : Bool) → At (S .code) p (operatingBy (pick t (some (Add, negW n)) none) sub pa (constant n) d) q
-          → Sound S (operate sub x y ls w) (K * w .fuel + 64) (w .fuel) 0 (ExprPost L A σ d q (temporary d) ls₀ f) ρ
+          → Sound S (operate sub x y ls w) (K * w .fuel + own-steps) (w .fuel) 0 (ExprPost L A σ d q (temporary d) ls₀ f) ρ
       go true hc = immediately (operate sub x y ls w) Add (negW n) x d p q f pa ls₀ ls w σ ρ hd ta Y hp hx (sub-constant x y n ls w hy) hc
       go false hc = generally sub x y d e p q f pa (constant n) ls₀ ls w σ ρ hd ta tb he sb Y hp hx hy hc
   operates lt x y d e p q f pa (constant n) ls₀ ls w σ ρ hd ta tb he sb Y hp hx hy hc = go (short n) hc
     where
       go : (t : Bool) → At (S .code) p (operatingBy (pick t (some (Slt, n)) none) lt pa (constant n) d) q
-          → Sound S (operate lt x y ls w) (K * w .fuel + 64) (w .fuel) 0 (ExprPost L A σ d q (temporary d) ls₀ f) ρ
+          → Sound S (operate lt x y ls w) (K * w .fuel + own-steps) (w .fuel) 0 (ExprPost L A σ d q (temporary d) ls₀ f) ρ
       go true hc = immediately (operate lt x y ls w) Slt n x d p q f pa ls₀ ls w σ ρ hd ta Y hp hx (lt-constant x y n ls w hy) hc
       go false hc = generally lt x y d e p q f pa (constant n) ls₀ ls w σ ρ hd ta tb he sb Y hp hx hy hc
   operates mul x y d e p q f pa (constant n) ls₀ ls w σ ρ hd ta tb he sb Y hp hx hy hc = generally mul x y d e p q f pa (constant n) ls₀ ls w σ ρ hd ta tb he sb Y hp hx hy hc
@@ -319,7 +320,7 @@ module _ (L : Linked) (A : Activation L) where
   -- a unary operator's code
   one-alone : (o : Unary) (x d p q f : ℕ) (pl : Place) (ls₀ ls : List ℕ) (w : World) (σ ρ : State) → d < most-temporaries → There pl
       → Ready σ d ls₀ f ls w ρ → ρ .pc ≡ p → valueAt pl B ρ ≡ x → At (S .code) p (fetch pl 0 ++ (alone o (target d) (source pl 0) ∷ keep d)) q
-      → Sound S (goes (apply o x) ls w) (K * w .fuel + 64) (w .fuel) 0 (ExprPost L A σ d q (temporary d) ls₀ f) ρ
+      → Sound S (goes (apply o x) ls w) (K * w .fuel + own-steps) (w .fuel) 0 (ExprPost L A σ d q (temporary d) ls₀ f) ρ
   one-alone o x d p q f pl ls₀ ls w σ ρ hd tl Y hp hx hc =
       let t = at-split (S .code) p (fetch pl 0) _ q hc in
       let h = fetch-ok S pl 0 p (t .0) ρ (framed L A) tl (Y .cor .sp-is) (t .1) (Y .on) hp in
@@ -331,7 +332,7 @@ module _ (L : Linked) (A : Activation L) where
 
   pub applies : (o : Unary) (x d p q f : ℕ) (pl : Place) (ls₀ ls : List ℕ) (w : World) (σ ρ : State) → d < most-temporaries → There pl
       → Ready σ d ls₀ f ls w ρ → ρ .pc ≡ p → valueAt pl B ρ ≡ x → At (S .code) p (applying o pl d) q
-      → Sound S (goes (apply o x) ls w) (K * w .fuel + 64) (w .fuel) 0 (ExprPost L A σ d q (result o pl d) ls₀ f) ρ
+      → Sound S (goes (apply o x) ls w) (K * w .fuel + own-steps) (w .fuel) 0 (ExprPost L A σ d q (result o pl d) ls₀ f) ρ
   applies o x d p q f (constant n) ls₀ ls w σ ρ hd tl Y hp hx hc =
       sound-end S (omega arith) (omega arith) (record {
         on = Y .on;
@@ -348,7 +349,7 @@ module _ (L : Linked) (A : Activation L) where
   -- an element is read
   pub reads : (a : Array) (i d p q f : ℕ) (pl : Place) (ls₀ ls : List ℕ) (w : World) (σ ρ : State) → d < most-temporaries → There pl → a .offset + a .size ≤ S .elements
       → Ready σ d ls₀ f ls w ρ → ρ .pc ≡ p → valueAt pl B ρ ≡ i → At (S .code) p (reading a pl d) q
-      → Sound S (read a i ls w) (K * w .fuel + 64) (w .fuel) 0 (ExprPost L A σ d q (temporary d) ls₀ f) ρ
+      → Sound S (read a i ls w) (K * w .fuel + own-steps) (w .fuel) 0 (ExprPost L A σ d q (temporary d) ls₀ f) ρ
   unfolding read
   reads a i d p q f pl ls₀ ls w σ ρ hd tl ha Y hp hi hc =
       let t = at-split (S .code) p (locate a pl) _ q hc in
@@ -356,7 +357,7 @@ module _ (L : Linked) (A : Activation L) where
       (located S a pl d p (t .0) i ρ (framed L A) tl (Y .cor .sp-is) (omega (arith, L .few)) (t .1) (Y .on) hp hi (ltb i (a .size)) refl)
     where
       go : (r : ℕ) → At (S .code) r (lw (target d) (scratch 0) (offset a pl) ∷ keep d) q → (b : Bool) → ltb i (a .size) ≡ b → Located S b B d r (offset a pl) i a ρ
-          → Sound S (pick b (λ ls w. goes (getD (w .arrays) (a .offset + i) 0) ls w) (trap 2) ls w) (K * w .fuel + 64) (w .fuel) 0 (ExprPost L A σ d q (temporary d) ls₀ f) ρ
+          → Sound S (pick b (λ ls w. goes (getD (w .arrays) (a .offset + i) 0) ls w) (trap 2) ls w) (K * w .fuel + own-steps) (w .fuel) 0 (ExprPost L A σ d q (temporary d) ls₀ f) ρ
       go r c false e F =
           let cr = core-same L A (Y .cor) (F .same) in
           sound-ran S 8 (omega arith) (F .ran)
@@ -395,7 +396,7 @@ module _ (L : Linked) (A : Activation L) where
   -- two values are compared
   pub compares : (c : Cond) (turned t near : Bool) (x y d e p q k f : ℕ) (pa pb : Place) (ls₀ ls : List ℕ) (w : World) (σ ρ : State) → There pa → There pb → d ≤ e → Stable pb e
       → Ready σ d ls₀ f ls w ρ → ρ .pc ≡ p → valueAt pa B ρ ≡ x → valueAt pb B ρ ≡ y → At (S .code) p (comparing near t c turned pa pb k) q
-      → Sound S (goes (bitOf (condOf c (pick turned y x) (pick turned x y))) ls w) (K * w .fuel + 64) (w .fuel) 0 (CondPost L A t σ d q k ls₀ f) ρ
+      → Sound S (goes (bitOf (condOf c (pick turned y x) (pick turned x y))) ls w) (K * w .fuel + own-steps) (w .fuel) 0 (CondPost L A t σ d q k ls₀ f) ρ
   compares c turned t near x y d e p q k f pa pb ls₀ ls w σ ρ ta tb he sb Y hp hx hy hc =
       let g = brings pa pb d e p q _ ρ ta tb he sb (Y .cor .sp-is) hc (Y .on) hp in
       let j = skip-ok S near (sense t c) (left turned (source pa 0) (source pb 1)) (right turned (source pa 0) (source pb 1)) k (g .at) q (g .to) (g .rest) (g .same .on) (g .same .here) _ refl in

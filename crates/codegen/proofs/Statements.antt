@@ -28,7 +28,7 @@ use Rattle.language.specs.Rules.{most-parameters}
 use Rattle.codegen.specs.Owed.{nodes, nodesOf, size, sizeOf, count, nothing, Callable, Fits, FitsAll, Tests, Runs, RunsAll}
 use Rattle.codegen.proofs.Placement.{At, at-split, at-len}
 use Rattle.codegen.specs.Costs.{K, C}
-use Rattle.codegen.proofs.Budgets.{answer-spare}
+use Rattle.codegen.proofs.Budgets.{answer-spare, call-share}
 use Rattle.codegen.proofs.Logic.{Arrays, Setting, spent, Post, Sound, Halt, sound-rates, sound-bind, sound-bind′, sound-then, sound-then′, sound-post, sound-begin, sound-step, sound-end, sound-stop, sound-pure, sound-ran, Ran, ran-none, ran-step, ran-trans, ran-most}
 use Rattle.codegen.proofs.Numbers.{in-data}
 use Rattle.codegen.proofs.Frame.{updated-same, updated-other, Framed, Only, only-puts, Same, only-same, same-join, valueAt, There, Stable, value-same, lw-step, sw-step}
@@ -157,7 +157,7 @@ module _ (L : Linked) (A : Activation L) where
   unfolding assign bind
   put-in m x z p r q pl hf hx I hc = record {
     run = λ ls w σ on hp c. sound-begin S ls w _ on (c .log-is) (c .arrays) (λ f e.
-        sound-bind S {z2 = 0} 128 (omega arith) (omega arith) (omega arith) (I .run ls (spent f w) σ on hp (core-spent L A f c))
+        sound-bind S {z2 = 0} K (omega arith) (omega arith) (omega arith) (I .run ls (spent f w) σ on hp (core-spent L A f c))
         (λ v ls2 w2 τ Q.
         let t = at-split (S .code) r (fetch pl 0) (sw (source pl 0) sp (4 * localWord x) ∷ []) q hc in
         let h = fetch-ok S pl 0 r (t .0) τ (framed L A) (there L A pl 0 hf) (Q .cor .sp-is) (t .1) (Q .on) (Q .here) in
@@ -236,7 +236,7 @@ module _ (L : Linked) (A : Activation L) where
       → StmtIn (λ ls w. bind (begin ls w) (λ _ ls w. bind (ma ls w) (λ i ls w. bind (mb ls w) (λ v ls w. bind (write a i v ls w) (λ _. gives next))))) (suc (za + zb)) p q
   store-in ma mb a za zb p r u q pa pb fa fb ha I J hc = record {
     run = λ ls w σ on hp c. sound-begin S ls w _ on (c .log-is) (c .arrays) (λ f e.
-        sound-bind S {z2 = zb} 128 (omega arith) (omega arith) (omega arith) (I .run ls (spent f w) σ on hp (core-spent L A f c))
+        sound-bind S {z2 = zb} K (omega arith) (omega arith) (omega arith) (I .run ls (spent f w) σ on hp (core-spent L A f c))
         (λ i ls2 w2 τ Q. sound-bind S {z2 = 0} 100 (omega arith) (omega arith) (omega arith) (J .run ls2 w2 τ (Q .on) (Q .here) (Q .cor))
         (λ v ls3 w3 ρ Z. writes a i v 0 (suc (above pa 0)) u q (w .fuel) pa pb ls3 w3 ρ (there L A pa 0 fa) (there L A pb (above pa 0) fb)
         (stable L A pb (above pa 0) (suc (above pa 0)) fb (omega arith)) ha (Z .cor) (Z .on) (Z .here)
@@ -249,12 +249,12 @@ module _ (L : Linked) (A : Activation L) where
       → StmtIn (λ ls w. bind (begin ls w) (λ _ ls w. bind (m ls w) (λ v. branch v n (gives next)))) (suc (y + (z + 0))) p q
   choose-end m n y z p r q k hk hr I J = record {
     run = λ ls w σ on hp c. sound-begin S ls w _ on (c .log-is) (c .arrays) (λ f e.
-        sound-bind S {z2 = z} 128 (omega arith) (omega arith) (omega arith) (I .run ls (spent f w) σ on hp (core-spent L A f c))
+        sound-bind S {z2 = z} K (omega arith) (omega arith) (omega arith) (I .run ls (spent f w) σ on hp (core-spent L A f c))
         (λ v ls2 w2 τ Q. go v ls ls2 w2 f (w .fuel) σ τ (omega arith) Q));
   }
     where
       go : (v : ℕ) (ls ls2 : List ℕ) (w2 : World) (f g : ℕ) (σ τ : State) → f ≤ g → CondPost L A false σ 0 r k ls f v ls2 w2 τ
-          → Sound S (branch v n (gives next) ls2 w2) (K * w2 .fuel + 128) (w2 .fuel) z (StmtPost q g) τ
+          → Sound S (branch v n (gives next) ls2 w2) (K * w2 .fuel + K) (w2 .fuel) z (StmtPost q g) τ
       go zero ls ls2 w2 f g σ τ h Q =
           sound-end S (omega arith) (omega arith) (record { on = Q .on; here = Q .here ∙ (let y : r + k ≡ q = omega arith in y); cor = Q .cor; less = omega (arith, Q .less) })
       go (suc v) ls ls2 w2 f g σ τ h Q = outer (n ls2 w2) q (w2 .fuel) g τ (omega (arith, Q .less)) (omega arith) (omega arith) (J .run ls2 w2 τ (Q .on) (Q .here) (Q .cor))
@@ -272,12 +272,12 @@ module _ (L : Linked) (A : Activation L) where
       → StmtIn (λ ls w. bind (begin ls w) (λ _ ls w. bind (m ls w) (λ v. branch v na nb))) (suc (y + (za + zb))) p q
   choose-else m na nb y za zb p r u q k j hk hr hj I J hc J2 = record {
     run = λ ls w σ on hp c. sound-begin S ls w _ on (c .log-is) (c .arrays) (λ f e.
-        sound-bind S {z2 = za + zb} 128 (omega arith) (omega arith) (omega arith) (I .run ls (spent f w) σ on hp (core-spent L A f c))
+        sound-bind S {z2 = za + zb} K (omega arith) (omega arith) (omega arith) (I .run ls (spent f w) σ on hp (core-spent L A f c))
         (λ v ls2 w2 τ Q. go v ls ls2 w2 f (w .fuel) σ τ (omega arith) Q));
   }
     where
       go : (v : ℕ) (ls ls2 : List ℕ) (w2 : World) (f g : ℕ) (σ τ : State) → f ≤ g → CondPost L A false σ 0 r k ls f v ls2 w2 τ
-          → Sound S (branch v na nb ls2 w2) (K * w2 .fuel + 128) (w2 .fuel) (za + zb) (StmtPost q g) τ
+          → Sound S (branch v na nb ls2 w2) (K * w2 .fuel + K) (w2 .fuel) (za + zb) (StmtPost q g) τ
       go zero ls ls2 w2 f g σ τ h Q =
           outer (nb ls2 w2) q (w2 .fuel) g τ (omega (arith, Q .less)) (omega arith) (omega arith)
           (J2 .run ls2 w2 τ (Q .on) (Q .here ∙ (let y : r + k ≡ suc u = omega arith in y)) (Q .cor))
@@ -392,7 +392,7 @@ module _ (L : Linked) (A : Activation L) where
       → AnswerIn (λ ls w. bind (begin ls w) (λ _ ls w. bind (m ls w) (λ vs. callAt (S .room) (L .functions) (A .left) f vs))) (suc z) p q
   answered-call m f z p r q ps hf har few I hc = record {
     run = λ ls w σ on hp c. sound-begin S ls w _ on (c .log-is) (c .arrays) (λ g e.
-        sound-bind S {z2 = 0} 120 (omega arith) (omega arith) (omega arith) (I .run ls (spent g w) σ on hp (core-spent L A g c))
+        sound-bind S {z2 = 0} call-share (omega arith) (omega arith) (omega arith) (I .run ls (spent g w) σ on hp (core-spent L A g c))
         (λ vs ls2 w2 τ Q. sound-then S {z2 = 0} (callAt (S .room) (L .functions) (A .left) f vs ls2 w2) 0 (omega arith) (omega arith) (omega arith)
         (calls L A f vs ps 0 r q ls2 w2 τ (omega arith) (Q .on) (Q .here) (Q .cor) (Q .held) hf har few hc)
         (λ v ls3 w3 ρ Z. sound-end S (omega arith) (omega arith) (record { on = Z .on; here = Z .here; cor = Z .cor; is = Z .is; less = omega (arith, Z .less, Q .less) }))));
@@ -402,7 +402,7 @@ module _ (L : Linked) (A : Activation L) where
       → StmtIn (λ ls w. bind (begin ls w) (λ _ ls w. bind (m ls w) (λ v. gives (returned v)))) (suc z) p q
   give-in m z p s q I hc = record {
     run = λ ls w σ on hp c. sound-begin S ls w _ on (c .log-is) (c .arrays) (λ f e.
-        sound-bind S {z2 = 0} 128 (omega arith) (omega arith) (omega arith) (I .run ls (spent f w) σ on hp (core-spent L A f c))
+        sound-bind S {z2 = 0} K (omega arith) (omega arith) (omega arith) (I .run ls (spent f w) σ on hp (core-spent L A f c))
         (λ v ls2 w2 τ Q.
         let g = leaves v s q (w .fuel) ls2 w2 τ hc (Q .on) (Q .here) (Q .cor) (Q .is) (omega (arith, Q .less)) in
         sound-ran S 2 (omega arith) (g .1) (sound-end S (omega arith) (omega arith) (g .2))));
@@ -447,7 +447,7 @@ module _ (L : Linked) (A : Activation L) where
       → StmtIn (λ ls w. bind (begin ls w) (λ _ ls w. bind (m ls w) (λ v ls w. bind (append (S .room) v ls w) (λ _. gives next)))) (suc z) p q
   emit-in m z p s q I hc = record {
     run = λ ls w σ on hp c. sound-begin S ls w _ on (c .log-is) (c .arrays) (λ f e.
-        sound-bind S {z2 = 0} 128 (omega arith) (omega arith) (omega arith) (I .run ls (spent f w) σ on hp (core-spent L A f c))
+        sound-bind S {z2 = 0} K (omega arith) (omega arith) (omega arith) (I .run ls (spent f w) σ on hp (core-spent L A f c))
         (λ v ls2 w2 τ Q. sound-rates S (bind (append (S .room) v ls2 w2) (λ _. gives next)) (omega arith) (omega arith)
         (emits v s q (w .fuel) ls2 w2 τ hc (Q .on) (Q .here) (Q .cor) (Q .is) (omega (arith, Q .less)))));
   }
@@ -458,7 +458,7 @@ module _ (L : Linked) (A : Activation L) where
       → StmtIn (λ ls w. bind (begin ls w) (λ _ ls w. bind (m ls w) (λ vs ls w. bind (callAt (S .room) (L .functions) (A .left) f vs ls w) (λ _. gives next)))) (suc z) p q
   run-in m f z p r q ps hf har few I hc = record {
     run = λ ls w σ on hp c. sound-begin S ls w _ on (c .log-is) (c .arrays) (λ g e.
-        sound-bind S {z2 = 0} 128 (omega arith) (omega arith) (omega arith) (I .run ls (spent g w) σ on hp (core-spent L A g c))
+        sound-bind S {z2 = 0} K (omega arith) (omega arith) (omega arith) (I .run ls (spent g w) σ on hp (core-spent L A g c))
         (λ vs ls2 w2 τ Q. sound-bind S {z2 = 0} 0 (omega arith) (omega arith) (omega arith)
         (calls L A f vs ps 0 r q ls2 w2 τ (omega arith) (Q .on) (Q .here) (Q .cor) (Q .held) hf har few hc)
         (λ v ls3 w3 ρ Z. sound-end S (omega arith) (omega arith) (record { on = Z .on; here = Z .here; cor = Z .cor; less = omega (arith, Z .less, Q .less) }))));

@@ -1,7 +1,7 @@
 -- Document 01 §4: a tree that keeps every rule becomes a core program; any other is refused, at a place in the text.
 -- Which token: rules are looked at in this order, and the first that is broken counts. Declarations, from the first to the last; then `main`;
 -- then functions, from the first to the last, each in the order of its text: of an expression or a statement first the expressions in it, then
--- its own rules, then its blocks.
+-- its own rules, then its blocks; of a function its parameters, then its block, then that it ends in return, at its name.
 -- The place is that of the token which the tree's node carries; the text's end where there is no `main`.
 use mathlib.Core.Bool.{Bool, true, false}
 use mathlib.Core.List.{List, [], _∷_}

@@ -107,7 +107,7 @@ runs :
     × (go 1 9 (0x00100893 ∷ 0x73 ∷ 0x73 ∷ []) ≡ (Trap 4, 0 ∷ [], 3, 0x1008, 0))
     -- fault 5 : x17 = 3
     × (go 1 9 (0x00300893 ∷ 0x73 ∷ []) ≡ (Fault 5, [], 2, 0x1004, 0))
-    -- ebreak, unknown count
+    -- ebreak counts
     × (go 1 9 (0x00100073 ∷ []) ≡ (Fault 4, [], 1, 0x1000, 0))
     -- lw x0, 0(x0): fault 3 though x0
     × (go 1 9 (0x00002003 ∷ []) ≡ (Fault 3, [], 1, 0x1000, 0))

@@ -1,4 +1,5 @@
--- What `emulate` left, gone on with by `resume`, is the run that `emulate` makes with both limits at once (document 03 §4).
+-- What `emulate` left, gone on with by `resume`, is the run that `emulate` makes with both limits at once (document 03 §4), as long as their sum is
+-- one that 64 bits hold: `resume` counts no further.
 use Prim.Native.Nat.{ℕ, _+_, _≤_}
 use mathlib.Core.Path.{_≡_, refl, sym, _∙_, ap}
 use mathlib.Core.List.{List, _++_}
