@@ -81,6 +81,6 @@ module _ (costs : Costs) (p : Program) (image : List ℕ) where
     -- No limit gives a fault.
     pub never_faults : (arrays : List ℕ) (limit room : ℕ) → Input p arrays → (n : ℕ) → (machine arrays limit room).machine.status ≡ Fault n → ⊥
     -- The logs agree forever: each one's log at any moment is the beginning of the other's at some moment, which that moment bounds.
-    pub same-forever : (arrays : List ℕ) (room : ℕ) → Input p arrays →
+    pub same_forever : (arrays : List ℕ) (room : ℕ) → Input p arrays →
         ((fuel : ℕ) → (limit : ℕ) × (limit ≤ costs.K * fuel + costs.K0) × Begins (source arrays fuel room).world.log (machine arrays limit room).machine.log) ×
         ((limit : ℕ) → (fuel : ℕ) × (fuel ≤ costs.C * limit + costs.C0) × Begins (machine arrays limit room).machine.log (source arrays fuel room).world.log)

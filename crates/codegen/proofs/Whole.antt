@@ -187,5 +187,5 @@ module _ (p : Program) (O : Owed p) (fits : length (instructions_of p) ≤ most_
     goes_on = λ arrays fuel room I e. goes_on_at arrays room I fuel e;
     ends_back = λ arrays limit room I stop k e. ends_back_at arrays room I limit stop k e;
     never_faults = λ arrays limit room I n e. never_faults room (instructions_of p) arrays (loads arrays room I) limit (no_fault p O arrays room I.one_each limit) n e;
-    same-forever = λ arrays room I. (λ fuel. forever_there arrays room I fuel, λ limit. forever_back arrays room I limit);
+    same_forever = λ arrays room I. (λ fuel. forever_there arrays room I fuel, λ limit. forever_back arrays room I limit);
   }

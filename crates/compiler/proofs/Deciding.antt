@@ -50,9 +50,9 @@ module _ {ws es : List ℕ} {near : Bool} {d : ℕ} {t : Bool} {j₀ at to : ℕ
 
   module _ {t₁ : Bool} {j at₁ to₁ : ℕ} {us₁ : List ℕ} where
     -- a step further
-    pub heads-on : {t₂ : Bool} {k at₂ to₂ : ℕ} {us₂ : List ℕ} → Heads ws es near d t j₀ at to us t₁ j at₁ to₁ us₁ → Heads ws es near d t₁ j at₁ to₁ us₁ t₂ k at₂ to₂ us₂ →
+    pub heads_on : {t₂ : Bool} {k at₂ to₂ : ℕ} {us₂ : List ℕ} → Heads ws es near d t j₀ at to us t₁ j at₁ to₁ us₁ → Heads ws es near d t₁ j at₁ to₁ us₁ t₂ k at₂ to₂ us₂ →
         Heads ws es near d t j₀ at to us t₂ k at₂ to₂ us₂
-    heads-on {t₂} {k} {at₂} {to₂} {us₂} s g = record { each = λ (e : Expr) (i : ℕ) (l : Lies ws e i j₀) (h : 4 * d ≤ i). by h (s.each e i l h) }
+    heads_on {t₂} {k} {at₂} {to₂} {us₂} s g = record { each = λ (e : Expr) (i : ℕ) (l : Lies ws e i j₀) (h : 4 * d ≤ i). by h (s.each e i l h) }
       where
         onto : {e : Expr} {i : ℕ} (x : Heading ws es near d e t i at to us t₁ j at₁ to₁ us₁) → Heading ws es near d x.part t₁ i at₁ to₁ us₁ t₂ k at₂ to₂ us₂ →
             Heading ws es near d e t i at to us t₂ k at₂ to₂ us₂
@@ -66,8 +66,8 @@ module _ {ws es : List ℕ} {near : Bool} {d : ℕ} {t : Bool} {j₀ at to : ℕ
         by {e} {i} h x = onto x (g.each x.part i x.lies h)
 
     -- and the end
-    pub heads-to : {r : ℕ} {us₂ : List ℕ} → Heads ws es near d t j₀ at to us t₁ j at₁ to₁ us₁ → Conditions ws es near t₁ j d at₁ to₁ us₁ us₂ r → Conditions ws es near t j₀ d at to us us₂ r
-    heads-to {r} {us₂} s g = record { each = λ (e : Expr) (i : ℕ) (l : Lies ws e i j₀) (h : 4 * d ≤ i). by h (s.each e i l h) }
+    pub heads_to : {r : ℕ} {us₂ : List ℕ} → Heads ws es near d t j₀ at to us t₁ j at₁ to₁ us₁ → Conditions ws es near t₁ j d at₁ to₁ us₁ us₂ r → Conditions ws es near t j₀ d at to us us₂ r
+    heads_to {r} {us₂} s g = record { each = λ (e : Expr) (i : ℕ) (l : Lies ws e i j₀) (h : 4 * d ≤ i). by h (s.each e i l h) }
       where
         by : {e : Expr} {i : ℕ} → 4 * d ≤ i → Heading ws es near d e t i at to us t₁ j at₁ to₁ us₁ → Emits (condition (entry_in es) near e t d (to - at)) at us us₂ r
         by {e} {i} h x = x.whole us₂ r (g.each x.part i x.lies h)

@@ -19,7 +19,7 @@ use Rattle.codegen.proofs.Bounds.{function_weight, program_weight, block_light}
 use Rattle.elaboration.proofs.All.{All, kept, then, anything, so, Each}
 use Rattle.elaboration.proofs.Declarations.{AllKnown, arities, Few}
 use Rattle.elaboration.proofs.Calls.{parameters_of}
-use Rattle.elaboration.proofs.Statements.{Sound, Steps, block-good, parameters_good}
+use Rattle.elaboration.proofs.Statements.{Sound, Steps, block_good, parameters_good}
 
 pub record GoodFunction (functions : List Function) (elements : ℕ) (g : Function) : Type 0 where
   pub proper : Proper functions elements g
@@ -62,7 +62,7 @@ module _ (functions : List Function) (elements : ℕ) (globals : List Global) (a
   -- with as many locals as are counted at last
   body_good : {i j : ℕ} (r : Option Ty) {b : T.Block} → IsBlock tok 0 i j b → (s : Scope globals) → Sound globals s →
       All (λ c. (n : ℕ) → Steps functions elements n globals all_Known tok small r s 1 i j c) (block globals r b s)
-  body_good r h s t = record { holds = λ c e n. (block-good functions elements n globals all_Known tok small r h s t).holds c e }
+  body_good r h s t = record { holds = λ c e n. (block_good functions elements n globals all_Known tok small r h s t).holds c e }
 
   -- its weight is at most the tokens from h on, where it begins
   function_good : {h i j : ℕ} (at : Place) (ps : List Param) (r : Option Ty) {b : T.Block} → h < i → IsBlock tok 0 i j b → length ps ≤ most_parameters →

@@ -72,8 +72,8 @@ module _ (functions : List Function) (elements n : ℕ) (globals : List Global) 
   mutual
     unfolding stmt
 
-    pub stmt-good : {d i j : ℕ} {t : T.Stmt} → IsStmt tok d i j t → (s : Scope globals) → Sound globals s → d ≤ most_open → All (Step s d i j) (stmt globals result t s)
-    stmt-good (IsStmt.declare {p = at} {t = t} w x c y q e f g) s h o =
+    pub stmt_good : {d i j : ℕ} {t : T.Stmt} → IsStmt tok d i j t → (s : Scope globals) → Sound globals s → d ≤ most_open → All (Step s d i j) (stmt globals result t s)
+    stmt_good (IsStmt.declare {p = at} {t = t} w x c y q e f g) s h o =
         then (value s h o e) λ y u.
         then (wanted (Value s _ _ _) t at y u) λ v u'.
         then anything λ _ _.
@@ -83,56 +83,56 @@ module _ (functions : List Function) (elements n : ℕ) (globals : List Global) 
           sound = record { visible = newest _ h.visible; few = ltb-true _ _ b };
           good = λ l. good_put functions elements n o (omega (arith, l)) (u' (omega (arith, l))) (omega arith) (omega (arith, g));
         })
-    stmt-good (IsStmt.assign {p = at} {x = x} w q e f g) s h o =
+    stmt_good (IsStmt.assign {p = at} {x = x} w q e f g) s h o =
         then (value s h o e) λ y u.
         then (local_seen h.visible at x) λ k b.
         then (wanted (Value s _ _ _) k.type at y u) λ v u'.
         kept (same h (λ l. good_put functions elements n o (omega (arith, b, l)) (u' l) (omega arith) (omega (arith, g))))
-    stmt-good (IsStmt.store {p = at} {x = x} w b l e c q f k g) s h o =
+    stmt_good (IsStmt.store {p = at} {x = x} w b l e c q f k g) s h o =
         then (value s h (omega (arith, l)) e) λ j u.
         then (value s h o f) λ y v.
         then (wanted (Value s _ _ _) int at j u) λ j' u'.
         then (wanted (Value s _ _ _) int at y v) λ y' v'.
         then (array_known (parameters_of functions) all_Known at x) λ a within.
         kept (same h (λ m. good_store functions elements n o within (u' m) (v' m) g))
-    stmt-good (IsStmt.when {p = at} w e b) s h o =
+    stmt_good (IsStmt.when {p = at} w e b) s h o =
         then (value s h o e) λ y u.
         then (wanted (Value s _ _ _) bool at y u) λ v u'.
-        then (block-good b s h) λ p r.
+        then (block_good b s h) λ p r.
         kept (counted h r.grows r.few (λ l. good_choose functions elements n (u' (omega (arith, l, r.grows))) (r.good l) (good_end functions elements n (omega (arith, o))) (omega arith)))
-    stmt-good (IsStmt.choose {p = at} w e b c d) s h o =
+    stmt_good (IsStmt.choose {p = at} w e b c d) s h o =
         then (value s h o e) λ y u.
         then (wanted (Value s _ _ _) bool at y u) λ v u'.
-        then (block-good b s h) λ p r.
-        then (block-good d (record { visible = s.visible; count = p.1 }) (record { visible = wider r.grows h.visible; few = r.few })) λ q r'.
+        then (block_good b s h) λ p r.
+        then (block_good d (record { visible = s.visible; count = p.1 }) (record { visible = wider r.grows h.visible; few = r.few })) λ q r'.
         kept (counted h (omega (arith, r.grows, r'.grows)) r'.few (λ l. good_choose functions elements n (u' (omega (arith, l, r.grows, r'.grows))) (r.good (omega (arith, l, r'.grows))) (r'.good l) (omega arith)))
-    stmt-good (IsStmt.while {p = at} w e b) s h o =
+    stmt_good (IsStmt.while {p = at} w e b) s h o =
         then (value s h o e) λ y u.
         then (wanted (Value s _ _ _) bool at y u) λ v u'.
-        then (block-good b s h) λ p r.
+        then (block_good b s h) λ p r.
         kept (counted h r.grows r.few (λ l. good_while functions elements n (u' (omega (arith, l, r.grows))) (r.good l)))
-    stmt-good (IsStmt.leave {p = at} w f g) s h o = then (left at result h o g) λ c u. kept u
-    stmt-good (IsStmt.give {p = at} w e f g) s h o = then (value s h o e) λ y u. then (given_back at result y h o u g) λ c v. kept v
-    stmt-good (IsStmt.emit {p = at} w e f g) s h o =
+    stmt_good (IsStmt.leave {p = at} w f g) s h o = then (left at result h o g) λ c u. kept u
+    stmt_good (IsStmt.give {p = at} w e f g) s h o = then (value s h o e) λ y u. then (given_back at result y h o u g) λ c v. kept v
+    stmt_good (IsStmt.emit {p = at} w e f g) s h o =
         then (value s h o e) λ y u.
         then (wanted (Value s _ _ _) int at y u) λ v u'.
         kept (same h (λ l. good_emit functions elements n o (u' l) (omega arith) (omega (arith, g))))
-    stmt-good (IsStmt.run {p = at} {x = x} w b l xs c f g) s h o =
+    stmt_good (IsStmt.run {p = at} {x = x} w b l xs c f g) s h o =
         then (values s h (omega (arith, l)) xs) λ es u.
         then (function_known (parameters_of functions) all_Known at x) λ f c.
         then (fitted (λ vs. s.count ≤ n → GoodStmt functions elements n s.count s.count _ _ _ (C.run f.number vs)) globals at es f.parameters (λ e m. good_run functions elements n l (callable functions elements c e) (rw e c.few) (u m) g)) λ vs k.
         kept (same h k)
 
-    pub stmts-good : {d i j : ℕ} {b : T.Block} → IsStmts tok d i j b → (s : Scope globals) → Sound globals s → d ≤ most_open → All (Steps s d i j) (block globals result b s)
-    stmts-good IsStmts.end s h o = kept (record { grows = omega arith; few = h.few; good = λ l. good_end functions elements n (omega (arith, o)) })
-    stmts-good (IsStmts.then t b) s h o =
-        then (stmt-good t s h o) λ c u.
-        then (stmts-good b c.1 u.sound o) λ r v.
+    pub stmts_good : {d i j : ℕ} {b : T.Block} → IsStmts tok d i j b → (s : Scope globals) → Sound globals s → d ≤ most_open → All (Steps s d i j) (block globals result b s)
+    stmts_good IsStmts.end s h o = kept (record { grows = omega arith; few = h.few; good = λ l. good_end functions elements n (omega (arith, o)) })
+    stmts_good (IsStmts.then t b) s h o =
+        then (stmt_good t s h o) λ c u.
+        then (stmts_good b c.1 u.sound o) λ r v.
         kept (record { grows = omega (arith, u.grows, v.grows); few = v.few; good = λ l. good_then functions elements n (u.good (omega (arith, l, v.grows))) (v.good l) })
 
-    pub block-good : {d i j : ℕ} {b : T.Block} → IsBlock tok d i j b → (s : Scope globals) → Sound globals s → All (Steps s (d + 1) i j) (block globals result b s)
-    block-good (IsBlock.block l o b c e) s h =
-        so (λ r u. record { grows = u.grows; few = u.few; good = λ m. in_braces functions elements n e (u.good m) }) (stmts-good b s h (omega (arith, o)))
+    pub block_good : {d i j : ℕ} {b : T.Block} → IsBlock tok d i j b → (s : Scope globals) → Sound globals s → All (Steps s (d + 1) i j) (block globals result b s)
+    block_good (IsBlock.block l o b c e) s h =
+        so (λ r u. record { grows = u.grows; few = u.few; good = λ m. in_braces functions elements n e (u.good m) }) (stmts_good b s h (omega (arith, o)))
 
 -- The parameters come first.
 

@@ -94,19 +94,19 @@ module _ (functions : List Function) (room : ℕ) (call call' : ℕ → List ℕ
     mutual
       unfolding eval Reads
 
-      eval-alike : (e : Expr) → Reads functions written e → Like Any written written (eval room call e) (eval room call' e)
-      eval-alike (C.number n) h = begun (given tt)
-      eval-alike (C.local x) h = begun (fetch_alike x h)
-      eval-alike (C.element a i) h = begun (then (eval-alike i h) λ k _. read_alike a k)
-      eval-alike (C.call f xs) h = begun (then (evals-alike xs h.2) λ vs n. calls.gives f vs written (n ∙ h.1) h.0)
-      eval-alike (C.unary o a) h = begun (then (eval-alike a h) λ x _. given tt)
-      eval-alike (C.strict o a b) h = begun (then (eval-alike a h.0) λ x _. then (eval-alike b h.1) λ y _. operate_alike o x y)
-      eval-alike (C.and a b) h = begun (then (eval-alike a h.0) λ x _. branched (Like Any written written) x (eval-alike b h.1) (given tt))
-      eval-alike (C.or a b) h = begun (then (eval-alike a h.0) λ x _. branched (Like Any written written) x (given tt) (eval-alike b h.1))
+      eval_alike : (e : Expr) → Reads functions written e → Like Any written written (eval room call e) (eval room call' e)
+      eval_alike (C.number n) h = begun (given tt)
+      eval_alike (C.local x) h = begun (fetch_alike x h)
+      eval_alike (C.element a i) h = begun (then (eval_alike i h) λ k _. read_alike a k)
+      eval_alike (C.call f xs) h = begun (then (evals_alike xs h.2) λ vs n. calls.gives f vs written (n ∙ h.1) h.0)
+      eval_alike (C.unary o a) h = begun (then (eval_alike a h) λ x _. given tt)
+      eval_alike (C.strict o a b) h = begun (then (eval_alike a h.0) λ x _. then (eval_alike b h.1) λ y _. operate_alike o x y)
+      eval_alike (C.and a b) h = begun (then (eval_alike a h.0) λ x _. branched (Like Any written written) x (eval_alike b h.1) (given tt))
+      eval_alike (C.or a b) h = begun (then (eval_alike a h.0) λ x _. branched (Like Any written written) x (given tt) (eval_alike b h.1))
 
-      evals-alike : (xs : Args) → ReadsAll functions written xs → Like (λ vs. length vs ≡ count xs) written written (evals room call xs) (evals room call' xs)
-      evals-alike C.none h = given refl
-      evals-alike (C.more e xs) h = then (eval-alike e h.0) λ v _. then (evals-alike xs h.1) λ vs n. given (ap suc n)
+      evals_alike : (xs : Args) → ReadsAll functions written xs → Like (λ vs. length vs ≡ count xs) written written (evals room call xs) (evals room call' xs)
+      evals_alike C.none h = given refl
+      evals_alike (C.more e xs) h = then (eval_alike e h.0) λ v _. then (evals_alike xs h.1) λ vs n. given (ap suc n)
 
   -- what is written stays so
   still : (written : List ℕ) (s : Stmt) (x : ℕ) → In x written → In x (after functions written s)
@@ -123,22 +123,22 @@ module _ (functions : List Function) (room : ℕ) (call call' : ℕ → List ℕ
   mutual
     unfolding exec SettledStmt after
 
-    exec-alike : (s : Stmt) (written : List ℕ) → SettledStmt functions written s → Like Any written (after functions written s) (exec room call s) (exec room call' s)
-    exec-alike (C.put x e) written h = begun (then (eval-alike written e h) λ v _. then (assign_alike x v) λ _ _. given tt)
-    exec-alike (C.store a i e) written h =
-        begun (then (eval-alike written i h.0) λ k _. then (eval-alike written e h.1) λ v _. then (write_alike a k v) λ _ _. given tt)
-    exec-alike (C.choose e a b) written h = begun (then (eval-alike written e h.0) λ v _. branched (Like Any written written) v (block-alike a written h.1) (block-alike b written h.2))
-    exec-alike (C.while e b) written h =
-        begun (record { from = λ ls ls' w g. (rounds_alike w.fuel (eval-alike written e h.0) (block-alike b written h.1)).from ls ls' w g })
-    exec-alike C.leave written h = begun (given tt)
-    exec-alike (C.give e) written h = begun (then (eval-alike written e h) λ v _. given tt)
-    exec-alike (C.emit e) written h = begun (then (eval-alike written e h) λ v _. then (append_alike room v) λ _ _. given tt)
-    exec-alike (C.run f xs) written h = begun (then (evals-alike written xs h.1) λ vs n. calls.runs f vs written (n ∙ h.0))
+    exec_alike : (s : Stmt) (written : List ℕ) → SettledStmt functions written s → Like Any written (after functions written s) (exec room call s) (exec room call' s)
+    exec_alike (C.put x e) written h = begun (then (eval_alike written e h) λ v _. then (assign_alike x v) λ _ _. given tt)
+    exec_alike (C.store a i e) written h =
+        begun (then (eval_alike written i h.0) λ k _. then (eval_alike written e h.1) λ v _. then (write_alike a k v) λ _ _. given tt)
+    exec_alike (C.choose e a b) written h = begun (then (eval_alike written e h.0) λ v _. branched (Like Any written written) v (block_alike a written h.1) (block_alike b written h.2))
+    exec_alike (C.while e b) written h =
+        begun (record { from = λ ls ls' w g. (rounds_alike w.fuel (eval_alike written e h.0) (block_alike b written h.1)).from ls ls' w g })
+    exec_alike C.leave written h = begun (given tt)
+    exec_alike (C.give e) written h = begun (then (eval_alike written e h) λ v _. given tt)
+    exec_alike (C.emit e) written h = begun (then (eval_alike written e h) λ v _. then (append_alike room v) λ _ _. given tt)
+    exec_alike (C.run f xs) written h = begun (then (evals_alike written xs h.1) λ vs n. calls.runs f vs written (n ∙ h.0))
 
     -- a block leaves what was written before it
-    block-alike : (b : Block) (written : List ℕ) → SettledBlock functions written b → Like Any written written (block room call b) (block room call' b)
-    block-alike C.end written h = given tt
-    block-alike (C.then s b) written h = then (exec-alike s written h.0) λ f _. fewer_later (still written s) (followed_alike f (block-alike b (after functions written s) h.1))
+    block_alike : (b : Block) (written : List ℕ) → SettledBlock functions written b → Like Any written written (block room call b) (block room call' b)
+    block_alike C.end written h = given tt
+    block_alike (C.then s b) written h = then (exec_alike s written h.0) λ f _. fewer_later (still written s) (followed_alike f (block_alike b (after functions written s) h.1))
 
 -- what is written where a body begins are the slots of its parameters
 below_bound : (n x : ℕ) → In x (below n) → x < n
@@ -191,7 +191,7 @@ module _ (choices : Choices) (room : ℕ) where
     body_alike : (left f : ℕ) (vs : List ℕ) (w : World) → length vs ≡ (at f).parameters → Calls p.functions (other left) (usual left) →
         Alike Any (below (at f).parameters) (block room (other left) (at f).body (O.frame choices room vs w (at f)) w) (block room (usual left) (at f).body (vs ++ replicate (at f).lets 0) w)
     body_alike left f vs w e ih =
-        (block-alike p.functions room (other left) (usual left) ih (at f).body (below (at f).parameters) (settled.each f)
+        (block_alike p.functions room (other left) (usual left) ih (at f).body (below (at f).parameters) (settled.each f)
         ).from (O.frame choices room vs w (at f)) (vs ++ replicate (at f).lets 0) w (frames_agree vs w (at f) e)
 
     calls_alike : (left : ℕ) → Calls p.functions (other left) (usual left)

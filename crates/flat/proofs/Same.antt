@@ -13,18 +13,18 @@ use Rattle.flat.specs.Items.{code, codes, most_operands_lem, begins, scan, evalu
 use Rattle.flat.specs.Statements.{Stmt, Block, Function, flat, flats, flatten, fexec, fblock, fcall_at}
 use Rattle.flat.specs.Fits.{operands, locals, most, most_all, function_at, lets_of, body_of, block_operands, block_locals}
 use Rattle.flat.proofs.Bind.{bind_assoc, bind_ext, bind_goes}
-use Rattle.flat.proofs.Scan.{onto, Agree, scan-code, scan-codes}
+use Rattle.flat.proofs.Scan.{onto, Agree, scan_code, scan_codes}
 
 module _ (room : ℕ) (lets : ℕ → ℕ) (invoke call-fn : ℕ → List ℕ → Act ℕ) (agree : Agree lets invoke call-fn) where
   pub evaluate_code : (e : Expr) → operands e ≤ most_operands_lem → locals lets e ≤ most_locals_lem → evaluate invoke (code e 0 []) ≡ eval room call-fn e
   unfolding evaluate begins bind scan
-  evaluate_code e h g = fun_ext (λ ls. fun_ext (λ w. scan-code room lets invoke call-fn agree e 0 [] [] ls w (omega arith) g ∙ bind_goes (eval room call-fn e ls w)))
+  evaluate_code e h g = fun_ext (λ ls. fun_ext (λ w. scan_code room lets invoke call-fn agree e 0 [] [] ls w (omega arith) g ∙ bind_goes (eval room call-fn e ls w)))
 
   pub evaluate_codes : (f : ℕ) (xs : Args) → operands (C.call f xs) ≤ most_operands_lem → locals lets (C.call f xs) ≤ most_locals_lem →
       evaluate invoke (codes xs f 0 0 []) ≡ (λ ls w. bind (evals room call-fn xs ls w) (call-fn f))
   unfolding evaluate begins bind scan onto operands locals
   evaluate_codes f xs h g =
-      fun_ext (λ ls. fun_ext (λ w. scan-codes room lets invoke call-fn agree xs f 0 [] [] [] ls w (omega arith) (omega arith) (omega arith) (omega arith) ∙
+      fun_ext (λ ls. fun_ext (λ w. scan_codes room lets invoke call-fn agree xs f 0 [] [] [] ls w (omega arith) (omega arith) (omega arith) (omega arith) ∙
       bind_ext (evals room call-fn xs ls w) (λ vs l u. bind_goes (call-fn f vs l u))))
 
   abbrev most_operands : C.Stmt → ℕ

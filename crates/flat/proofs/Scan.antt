@@ -107,69 +107,69 @@ module _ (room : ℕ) (lets : ℕ → ℕ) (invoke call-fn : ℕ → List ℕ �
     skipped : (v : ℕ) (ls : List ℕ) (w : World) → push vs (λ _. sc (code b 0 (item 0 join ∷ is)) (size b)) v ls w ≡ sc is 0 (v ∷ vs) ls w
     skipped v ls w = push_in vs _ v ls w h ∙ (skip_code invoke b 0 _ 0 (size b) (v ∷ vs) ls w (omega arith) ∙ joined v ls w)
 
-    and-way : (x : ℕ) (ls : List ℕ) (w : World) → step invoke (and (size b)) (x ∷ vs) (sc (code b 0 (item 0 join ∷ is))) ls w ≡ bind (branch x (ev b) (value 0) ls w) (λ v. sc is 0 (v ∷ vs))
+    and_way : (x : ℕ) (ls : List ℕ) (w : World) → step invoke (and (size b)) (x ∷ vs) (sc (code b 0 (item 0 join ∷ is))) ls w ≡ bind (branch x (ev b) (value 0) ls w) (λ v. sc is 0 (v ∷ vs))
     unfolding step bind
-    and-way zero ls w = skipped 0 ls w
-    and-way (suc x) ls w = right ls w
+    and_way zero ls w = skipped 0 ls w
+    and_way (suc x) ls w = right ls w
 
-    or-way : (x : ℕ) (ls : List ℕ) (w : World) → step invoke (or (size b)) (x ∷ vs) (sc (code b 0 (item 0 join ∷ is))) ls w ≡ bind (branch x (value 1) (ev b) ls w) (λ v. sc is 0 (v ∷ vs))
+    or_way : (x : ℕ) (ls : List ℕ) (w : World) → step invoke (or (size b)) (x ∷ vs) (sc (code b 0 (item 0 join ∷ is))) ls w ≡ bind (branch x (value 1) (ev b) ls w) (λ v. sc is 0 (v ∷ vs))
     unfolding step bind
-    or-way zero ls w = right ls w
-    or-way (suc x) ls w = skipped 1 ls w
+    or_way zero ls w = right ls w
+    or_way (suc x) ls w = skipped 1 ls w
 
   mutual
     unfolding code eval scan step begins bind operands arguments locals onto
 
     -- k nodes begin, the expression is evaluated, and the scan goes on with its value
-    pub scan-code : (e : Expr) (k : ℕ) (is : List Item) (vs ls : List ℕ) (w : World) → length vs + operands e ≤ most_operands_lem → locals lets e ≤ most_locals_lem →
+    pub scan_code : (e : Expr) (k : ℕ) (is : List Item) (vs ls : List ℕ) (w : World) → length vs + operands e ≤ most_operands_lem → locals lets e ≤ most_locals_lem →
         sc (code e k is) 0 vs ls w ≡ bind (begins k ls w) (λ _ ls' w'. bind (ev e ls' w') (λ v. sc is 0 (v ∷ vs)))
-    scan-code (C.number x) k is vs ls w h g = bind_ext (begins (suc k) ls w) (λ _ ls' w'. push_in vs _ x ls' w' (omega arith)) ∙ begins_more k (value x) _ ls w
-    scan-code (C.local x) k is vs ls w h g = bind_ext (begins (suc k) ls w) (λ _ ls' w'. push_out (fetch x ls' w') vs _ (omega arith)) ∙ begins_more k (fetch x) _ ls w
-    scan-code (C.element a i) k is vs ls w h g =
-        scan-code i (suc k) _ vs ls w h g ∙
+    scan_code (C.number x) k is vs ls w h g = bind_ext (begins (suc k) ls w) (λ _ ls' w'. push_in vs _ x ls' w' (omega arith)) ∙ begins_more k (value x) _ ls w
+    scan_code (C.local x) k is vs ls w h g = bind_ext (begins (suc k) ls w) (λ _ ls' w'. push_out (fetch x ls' w') vs _ (omega arith)) ∙ begins_more k (fetch x) _ ls w
+    scan_code (C.element a i) k is vs ls w h g =
+        scan_code i (suc k) _ vs ls w h g ∙
         (bind_ext (begins (suc k) ls w)
         (λ _ ls' w'. bind_ext (ev i ls' w') (λ x l u. push_out (read a x l u) vs _ (omega (arith, some_operand i))) ∙ sym (bind_assoc (ev i ls' w') _ _)) ∙
         begins_more k (λ ls' w'. bind (ev i ls' w') (λ x. read a x)) _ ls w)
-    scan-code (C.call f xs) k is vs ls w h g =
-        scan-codes xs f (suc k) is [] vs ls w (omega arith) (omega arith) (omega arith) (omega arith) ∙
+    scan_code (C.call f xs) k is vs ls w h g =
+        scan_codes xs f (suc k) is [] vs ls w (omega arith) (omega arith) (omega arith) (omega arith) ∙
         (bind_ext (begins (suc k) ls w) (λ _ ls' w'. sym (bind_assoc (evs xs ls' w') _ _)) ∙ begins_more k (λ ls' w'. bind (evs xs ls' w') (λ us. call-fn f us)) _ ls w)
-    scan-code (C.unary o a) k is vs ls w h g =
-        scan-code a (suc k) _ vs ls w h g ∙
+    scan_code (C.unary o a) k is vs ls w h g =
+        scan_code a (suc k) _ vs ls w h g ∙
         (bind_ext (begins (suc k) ls w)
         (λ _ ls' w'. bind_ext (ev a ls' w') (λ x l u. push_in vs _ _ l u (omega (arith, some_operand a))) ∙ sym (bind_assoc (ev a ls' w') _ _)) ∙
         begins_more k (λ ls' w'. bind (ev a ls' w') (λ x. value (apply o x))) _ ls w)
-    scan-code (C.strict o a b) k is vs ls w h g =
-        scan-code a (suc k) _ vs ls w (omega arith) (omega arith) ∙
+    scan_code (C.strict o a b) k is vs ls w h g =
+        scan_code a (suc k) _ vs ls w (omega arith) (omega arith) ∙
         (bind_ext (begins (suc k) ls w)
         (λ _ ls' w'. bind_ext (ev a ls' w')
-        (λ x l u. scan-code b 0 _ (x ∷ vs) l u (omega arith) (omega arith) ∙
+        (λ x l u. scan_code b 0 _ (x ∷ vs) l u (omega arith) (omega arith) ∙
         (bind_ext (ev b l u) (λ y l' u'. push_out (operate o x y l' u') vs _ (omega (arith, some_operand a))) ∙ sym (bind_assoc (ev b l u) _ _))) ∙
         sym (bind_assoc (ev a ls' w') _ _)) ∙
         begins_more k (λ ls' w'. bind (ev a ls' w') (λ x l u. bind (ev b l u) (λ y. operate o x y))) _ ls w)
-    scan-code (C.and a b) k is vs ls w h g =
-        scan-code a (suc k) _ vs ls w (omega arith) (omega arith) ∙
+    scan_code (C.and a b) k is vs ls w h g =
+        scan_code a (suc k) _ vs ls w (omega arith) (omega arith) ∙
         (bind_ext (begins (suc k) ls w)
-        (λ _ ls' w'. bind_ext (ev a ls' w') (λ x l u. and-way b is vs (omega (arith, some_operand a)) (λ l' u'. scan-code b 0 _ vs l' u' (omega arith) (omega arith)) x l u) ∙
+        (λ _ ls' w'. bind_ext (ev a ls' w') (λ x l u. and_way b is vs (omega (arith, some_operand a)) (λ l' u'. scan_code b 0 _ vs l' u' (omega arith) (omega arith)) x l u) ∙
         sym (bind_assoc (ev a ls' w') _ _)) ∙
         begins_more k (λ ls' w'. bind (ev a ls' w') (λ x. branch x (ev b) (value 0))) _ ls w)
-    scan-code (C.or a b) k is vs ls w h g =
-        scan-code a (suc k) _ vs ls w (omega arith) (omega arith) ∙
+    scan_code (C.or a b) k is vs ls w h g =
+        scan_code a (suc k) _ vs ls w (omega arith) (omega arith) ∙
         (bind_ext (begins (suc k) ls w)
-        (λ _ ls' w'. bind_ext (ev a ls' w') (λ x l u. or-way b is vs (omega (arith, some_operand a)) (λ l' u'. scan-code b 0 _ vs l' u' (omega arith) (omega arith)) x l u) ∙
+        (λ _ ls' w'. bind_ext (ev a ls' w') (λ x l u. or_way b is vs (omega (arith, some_operand a)) (λ l' u'. scan_code b 0 _ vs l' u' (omega arith) (omega arith)) x l u) ∙
         sym (bind_assoc (ev a ls' w') _ _)) ∙
         begins_more k (λ ls' w'. bind (ev a ls' w') (λ x. branch x (value 1) (ev b))) _ ls w)
 
     -- the same of arguments and their call, after the arguments ws
-    pub scan-codes : (xs : Args) (f k : ℕ) (is : List Item) (ws vs ls : List ℕ) (w : World) → length vs < most_operands_lem → length (ws ++ vs) + operands_all xs ≤ most_operands_lem →
+    pub scan_codes : (xs : Args) (f k : ℕ) (is : List Item) (ws vs ls : List ℕ) (w : World) → length vs < most_operands_lem → length (ws ++ vs) + operands_all xs ≤ most_operands_lem →
         locals_all lets xs ≤ most_locals_lem → length ws + arguments xs + lets f ≤ most_locals_lem →
         sc (codes xs f (length ws) k is) 0 (ws ++ vs) ls w ≡
         bind (begins k ls w) (λ _ ls' w'. bind (evs xs ls' w') (λ us l u. bind (call-fn f (onto ws us) l u) (λ v. sc is 0 (v ∷ vs))))
-    scan-codes C.none f k is ws vs ls w h g q z =
+    scan_codes C.none f k is ws vs ls w h g q z =
         bind_ext (begins k ls w)
         (λ _ ls' w'. rw (le-ltb (length (ws ++ vs)) (length ws) (omega (arith, length-append ws vs)), popped_all ws vs [], drop_all ws vs, agree.same f (onto ws []) ls' w' (omega (arith, length_onto ws [])))
         (push_out (call-fn f (onto ws []) ls' w') vs _ h))
-    scan-codes (C.more e xs) f k is ws vs ls w h g q z =
-        scan-code e k _ (ws ++ vs) ls w (omega arith) (omega arith) ∙
+    scan_codes (C.more e xs) f k is ws vs ls w h g q z =
+        scan_code e k _ (ws ++ vs) ls w (omega arith) (omega arith) ∙
         bind_ext (begins k ls w)
-        (λ _ ls' w'. bind_ext (ev e ls' w') (λ v l u. scan-codes xs f 0 is (v ∷ ws) vs l u h (omega arith) (omega arith) (omega arith) ∙ sym (bind_assoc (evs xs l u) _ _)) ∙
+        (λ _ ls' w'. bind_ext (ev e ls' w') (λ v l u. scan_codes xs f 0 is (v ∷ ws) vs l u h (omega arith) (omega arith) (omega arith) ∙ sym (bind_assoc (evs xs l u) _ _)) ∙
         sym (bind_assoc (ev e ls' w') _ _))

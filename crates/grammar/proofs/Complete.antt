@@ -21,8 +21,8 @@ use Rattle.grammar.proofs.TokenKinds.{kind_has, number_has, has, row_level, row_
 -- what may follow an expression of level l: no operator of its level or a higher one, and nothing that makes a name an element or a call
 pub record Follows (l k : ℕ) : Type 0 where
   pub low : level_of k < l
-  pub bracket : k ≡ sign_kind Sign.left-bracket → ⊥
-  pub paren : k ≡ sign_kind Sign.left-paren → ⊥
+  pub bracket : k ≡ sign_kind Sign.left_bracket → ⊥
+  pub paren : k ≡ sign_kind Sign.left_paren → ⊥
 
 -- no operators
 level_none : (k : ℕ) → k ≡ 0 → level_of k ≡ 0
@@ -31,22 +31,22 @@ level_none k e = rw e
 
 module _ (s : Sign) where
   Ends : Type 0
-  Ends = (level_of (sign_kind s) ≡ 0) × (eqb (sign_kind s) (sign_kind Sign.left-bracket) ≡ false) × (eqb (sign_kind s) (sign_kind Sign.left-paren) ≡ false)
+  Ends = (level_of (sign_kind s) ≡ 0) × (eqb (sign_kind s) (sign_kind Sign.left_bracket) ≡ false) × (eqb (sign_kind s) (sign_kind Sign.left_paren) ≡ false)
 
   ends_follow : Ends → (l k : ℕ) → 0 < l → k ≡ sign_kind s → Follows l k
   unfolding Ends
   ends_follow h l k z e =
       record {
         low = omega (arith, ap level_of e ∙ h.0);
-        bracket = λ q. borrow.Author.Tests.eqb-false (sign_kind s) (sign_kind Sign.left-bracket) h.1 (sym e ∙ q);
-        paren = λ q. borrow.Author.Tests.eqb-false (sign_kind s) (sign_kind Sign.left-paren) h.2 (sym e ∙ q);
+        bracket = λ q. borrow.Author.Tests.eqb-false (sign_kind s) (sign_kind Sign.left_bracket) h.1 (sym e ∙ q);
+        paren = λ q. borrow.Author.Tests.eqb-false (sign_kind s) (sign_kind Sign.left_paren) h.2 (sym e ∙ q);
       }
 
-close_paren : Ends Sign.right-paren
+close_paren : Ends Sign.right_paren
 unfolding Ends level_of level_in operators sign_kind
 close_paren = (refl, refl, refl)
 
-close_bracket : Ends Sign.right-bracket
+close_bracket : Ends Sign.right_bracket
 unfolding Ends level_of level_in operators sign_kind
 close_bracket = (refl, refl, refl)
 
@@ -58,16 +58,16 @@ semicolon : Ends Sign.semicolon
 unfolding Ends level_of level_in operators sign_kind
 semicolon = (refl, refl, refl)
 
-brace : Ends Sign.left-brace
+brace : Ends Sign.left_brace
 unfolding Ends level_of level_in operators sign_kind
 brace = (refl, refl, refl)
 
 -- an operator follows what is of a higher level
-paren_level : level_of (sign_kind Sign.left-paren) ≡ 0
+paren_level : level_of (sign_kind Sign.left_paren) ≡ 0
 unfolding level_of level_in operators sign_kind
 paren_level = refl
 
-bracket_level : level_of (sign_kind Sign.left-bracket) ≡ 0
+bracket_level : level_of (sign_kind Sign.left_bracket) ≡ 0
 unfolding level_of level_in operators sign_kind
 bracket_level = refl
 
@@ -138,7 +138,7 @@ module _ (tok : ℕ → Option Placed) where
   -- the first token of an expression is there and closes nothing
   record Begins (k : ℕ) : Type 0 where
     pub there : 0 < k
-    pub unclosed : k ≡ sign_kind Sign.right-paren → ⊥
+    pub unclosed : k ≡ sign_kind Sign.right_paren → ⊥
     pub unended : k ≡ sign_kind Sign.semicolon → ⊥
 
   begins_sign : (s : Sign) (o : Unary) (k : ℕ) → In (s, o) unaries → k ≡ sign_kind s → Begins k
@@ -165,7 +165,7 @@ module _ (tok : ℕ → Option Placed) where
   unfolding sign_kind word_kind
   begins_false = record { there = omega arith; unclosed = λ w. omega arith; unended = λ w. omega arith }
 
-  begins_paren : Begins (sign_kind Sign.left-paren)
+  begins_paren : Begins (sign_kind Sign.left_paren)
   unfolding sign_kind
   begins_paren = record { there = omega arith; unclosed = λ w. omega arith; unended = λ w. omega arith }
 
@@ -210,25 +210,25 @@ module _ (tok : ℕ → Option Placed) where
 
     c_name : {j : ℕ} {x : Name} {p : Place} → At tok i (Token.name x) p → j ≡ i + 1 → Follows unary_level (kind tok j) → primary_of tok sub d i ≡ ok (Expr.name p x) j
     unfolding primary_of named_of kind_in kind_of place_in name_in name_of
-    c_name {j} h e f = rw (h, ne_eqb (kind tok (i + 1)) (sign_kind Sign.left-bracket) (λ q. f.bracket (ap (kind tok) e ∙ q)), ne_eqb (kind tok (i + 1)) (sign_kind Sign.left-paren) (λ q. f.paren (ap (kind tok) e ∙ q)), e)
+    c_name {j} h e f = rw (h, ne_eqb (kind tok (i + 1)) (sign_kind Sign.left_bracket) (λ q. f.bracket (ap (kind tok) e ∙ q)), ne_eqb (kind tok (i + 1)) (sign_kind Sign.left_paren) (λ q. f.paren (ap (kind tok) e ∙ q)), e)
 
     c_enclosed : (s : Sign) {j k : ℕ} {e : Expr} → d < most_open → sub expr_level (d + 1) (i + 1) ≡ ok e j → HasSign tok j s → k ≡ j + 1 → enclosed_of tok sub (sign_kind s) d i ≡ ok e k
     unfolding enclosed_of
     c_enclosed s {j} z x c e = rw (lt-ltb d most_open z, x, eq-eqb (kind tok j) (sign_kind s) (sign_kind_lem j c), e)
 
-    c_arguments : {j k : ℕ} {es : Args} → d < most_open → args_of tok sub (d + 1) (i + 1) ≡ ok es j → HasSign tok j Sign.right-paren → k ≡ j + 1 → arguments_of tok sub d i ≡ ok es k
+    c_arguments : {j k : ℕ} {es : Args} → d < most_open → args_of tok sub (d + 1) (i + 1) ≡ ok es j → HasSign tok j Sign.right_paren → k ≡ j + 1 → arguments_of tok sub d i ≡ ok es k
     unfolding arguments_of
-    c_arguments {j} z x c e = rw (lt-ltb d most_open z, x, eq-eqb (kind tok j) (sign_kind Sign.right-paren) (sign_kind_lem j c), e)
+    c_arguments {j} z x c e = rw (lt-ltb d most_open z, x, eq-eqb (kind tok j) (sign_kind Sign.right_paren) (sign_kind_lem j c), e)
 
-    c_element : {k : ℕ} {x : Name} {p : Place} {e : Expr} → At tok i (Token.name x) p → HasSign tok (i + 1) Sign.left-bracket → enclosed_of tok sub (sign_kind Sign.right-bracket) d (i + 1) ≡ ok e k → primary_of tok sub d i ≡ ok (Expr.element p x e) k
+    c_element : {k : ℕ} {x : Name} {p : Place} {e : Expr} → At tok i (Token.name x) p → HasSign tok (i + 1) Sign.left_bracket → enclosed_of tok sub (sign_kind Sign.right_bracket) d (i + 1) ≡ ok e k → primary_of tok sub d i ≡ ok (Expr.element p x e) k
     unfolding primary_of named_of kind_in kind_of place_in name_in name_of
-    c_element h b x = rw (h, eq-eqb (kind tok (i + 1)) (sign_kind Sign.left-bracket) (sign_kind_lem (i + 1) b), x)
+    c_element h b x = rw (h, eq-eqb (kind tok (i + 1)) (sign_kind Sign.left_bracket) (sign_kind_lem (i + 1) b), x)
 
-    c_call : {k : ℕ} {x : Name} {p : Place} {es : Args} → At tok i (Token.name x) p → HasSign tok (i + 1) Sign.left-paren → arguments_of tok sub d (i + 1) ≡ ok es k → primary_of tok sub d i ≡ ok (Expr.call p x es) k
+    c_call : {k : ℕ} {x : Name} {p : Place} {es : Args} → At tok i (Token.name x) p → HasSign tok (i + 1) Sign.left_paren → arguments_of tok sub d (i + 1) ≡ ok es k → primary_of tok sub d i ≡ ok (Expr.call p x es) k
     unfolding primary_of named_of kind_of name_in name_of place_in sign_kind
     c_call h b x = rw (at_name h, sign_kind_lem (i + 1) b, h, x)
 
-    c_parens : {k : ℕ} {e : Expr} → HasSign tok i Sign.left-paren → enclosed_of tok sub (sign_kind Sign.right-paren) d i ≡ ok e k → primary_of tok sub d i ≡ ok e k
+    c_parens : {k : ℕ} {e : Expr} → HasSign tok i Sign.left_paren → enclosed_of tok sub (sign_kind Sign.right_paren) d i ≡ ok e k → primary_of tok sub d i ≡ ok e k
     unfolding primary_of sign_kind word_kind
     c_parens b x = rw (sign_kind_lem i b, x)
 
@@ -268,15 +268,15 @@ module _ (tok : ℕ → Option Placed) where
         let w : exprs_of tok sub n d (j + 1) ≡ ok es k = ap (λ (m : ℕ). exprs_of tok sub m d (j + 1)) (sym m) ∙ y in
         rw (x, eq-eqb (kind tok j) (sign_kind Sign.comma) (sign_kind_lem j c), w)
 
-    c_none : HasSign tok i Sign.right-paren → args_of tok sub d i ≡ ok Args.none i
+    c_none : HasSign tok i Sign.right_paren → args_of tok sub d i ≡ ok Args.none i
     unfolding args_of
-    c_none c = rw (eq-eqb (kind tok i) (sign_kind Sign.right-paren) (sign_kind_lem i c))
+    c_none c = rw (eq-eqb (kind tok i) (sign_kind Sign.right_paren) (sign_kind_lem i c))
 
-    c_some : {j : ℕ} {es : Args} → (kind tok i ≡ sign_kind Sign.right-paren → ⊥) → exprs_of tok sub many d i ≡ ok es j → args_of tok sub d i ≡ ok es j
+    c_some : {j : ℕ} {es : Args} → (kind tok i ≡ sign_kind Sign.right_paren → ⊥) → exprs_of tok sub many d i ≡ ok es j → args_of tok sub d i ≡ ok es j
     unfolding args_of
-    c_some c x = rw (ne_eqb (kind tok i) (sign_kind Sign.right-paren) c, x)
+    c_some c x = rw (ne_eqb (kind tok i) (sign_kind Sign.right_paren) c, x)
 
-  no_comma : (k : ℕ) → k ≡ sign_kind Sign.right-paren → k ≡ sign_kind Sign.comma → ⊥
+  no_comma : (k : ℕ) → k ≡ sign_kind Sign.right_paren → k ≡ sign_kind Sign.comma → ⊥
   unfolding sign_kind
   no_comma k a b = omega arith
 
@@ -335,11 +335,11 @@ module _ (tok : ℕ → Option Placed) where
     unfolding stmt_of change_of assign_of kind_of place_in name_in name_of
     c_assign h q x = rw (at_name h, eq-eqb (kind tok (i + 1)) (sign_kind Sign.equals) (sign_kind_lem (i + 1) q), x, h)
 
-    c_store : {j k : ℕ} {p : Place} {x : Name} {a e : Expr} → At tok i (Token.name x) p → HasSign tok (i + 1) Sign.left-bracket → index_of tok d (i + 1) ≡ ok a j → HasSign tok j Sign.equals → ended_of tok d (j + 1) ≡ ok e k → stmt_of tok block d i ≡ ok (Stmt.store p x a e) k
+    c_store : {j k : ℕ} {p : Place} {x : Name} {a e : Expr} → At tok i (Token.name x) p → HasSign tok (i + 1) Sign.left_bracket → index_of tok d (i + 1) ≡ ok a j → HasSign tok j Sign.equals → ended_of tok d (j + 1) ≡ ok e k → stmt_of tok block d i ≡ ok (Stmt.store p x a e) k
     unfolding stmt_of change_of store_of kind_of place_in name_in name_of sign_kind
     c_store {j} h b a q x = rw (at_name h, sign_kind_lem (i + 1) b, a, sign_kind_lem j q, x, h)
 
-    c_run : {j k : ℕ} {p : Place} {x : Name} {es : Args} → At tok i (Token.name x) p → HasSign tok (i + 1) Sign.left-paren → call_of tok d (i + 1) ≡ ok es j → HasSign tok j Sign.semicolon → k ≡ j + 1 → stmt_of tok block d i ≡ ok (Stmt.run p x es) k
+    c_run : {j k : ℕ} {p : Place} {x : Name} {es : Args} → At tok i (Token.name x) p → HasSign tok (i + 1) Sign.left_paren → call_of tok d (i + 1) ≡ ok es j → HasSign tok j Sign.semicolon → k ≡ j + 1 → stmt_of tok block d i ≡ ok (Stmt.run p x es) k
     unfolding stmt_of change_of run_of kind_of place_in name_in name_of sign_kind
     c_run {j} h b a q e = rw (at_name h, sign_kind_lem (i + 1) b, a, sign_kind_lem j q, h, e)
 
@@ -367,31 +367,31 @@ module _ (tok : ℕ → Option Placed) where
     unfolding stmt_of if_of else_of word_kind place_in
     c_choose {j} {k} h x y w z = rw (word_kind_lem i (has h), x, y, word_kind_lem k w, z, h)
 
-    c_end : (n : ℕ) → 0 < n → HasSign tok i Sign.right-brace → stmts_of tok block n d i ≡ ok Block.end i
+    c_end : (n : ℕ) → 0 < n → HasSign tok i Sign.right_brace → stmts_of tok block n d i ≡ ok Block.end i
     unfolding stmts_of
     c_end zero z c = absurd (omega arith)
-    c_end (suc n) z c = rw (eq-eqb (kind tok i) (sign_kind Sign.right-brace) (sign_kind_lem i c))
+    c_end (suc n) z c = rw (eq-eqb (kind tok i) (sign_kind Sign.right_brace) (sign_kind_lem i c))
 
-    c_then : (n : ℕ) {j k : ℕ} {s : Stmt} {b : Block} → 0 < n → (kind tok i ≡ sign_kind Sign.right-brace → ⊥) → stmt_of tok block d i ≡ ok s j → stmts_of tok block (n - 1) d j ≡ ok b k → stmts_of tok block n d i ≡ ok (Block.then s b) k
+    c_then : (n : ℕ) {j k : ℕ} {s : Stmt} {b : Block} → 0 < n → (kind tok i ≡ sign_kind Sign.right_brace → ⊥) → stmt_of tok block d i ≡ ok s j → stmts_of tok block (n - 1) d j ≡ ok b k → stmts_of tok block n d i ≡ ok (Block.then s b) k
     unfolding stmts_of
     c_then zero z q x y = absurd (omega arith)
     c_then (suc n) {j} {k} {s} {b} z q x y =
         let m : suc n - 1 ≡ n = omega arith in
         let w : stmts_of tok block n d j ≡ ok b k = ap (λ (m : ℕ). stmts_of tok block m d j) (sym m) ∙ y in
-        rw (ne_eqb (kind tok i) (sign_kind Sign.right-brace) q, x, w)
+        rw (ne_eqb (kind tok i) (sign_kind Sign.right_brace) q, x, w)
 
-  c_block : (h d i : ℕ) {j k : ℕ} {b : Block} → 0 < h → HasSign tok i Sign.left-brace → d < most_open → stmts_of tok (block_of tok (h - 1)) many (d + 1) (i + 1) ≡ ok b j → HasSign tok j Sign.right-brace → k ≡ j + 1 → block_of tok h d i ≡ ok b k
+  c_block : (h d i : ℕ) {j k : ℕ} {b : Block} → 0 < h → HasSign tok i Sign.left_brace → d < most_open → stmts_of tok (block_of tok (h - 1)) many (d + 1) (i + 1) ≡ ok b j → HasSign tok j Sign.right_brace → k ≡ j + 1 → block_of tok h d i ≡ ok b k
   unfolding block_of
   c_block zero d i z o dd x c e = absurd (omega arith)
   c_block (suc h) d i {j} {k} {b} z o dd x c e =
       let m : suc h - 1 ≡ h = omega arith in
       let w : stmts_of tok (block_of tok h) many (d + 1) (i + 1) ≡ ok b j = ap (λ (m : ℕ). stmts_of tok (block_of tok m) many (d + 1) (i + 1)) (sym m) ∙ x in
-      rw (eq-eqb (kind tok i) (sign_kind Sign.left-brace) (sign_kind_lem i o), lt-ltb d most_open dd, w, eq-eqb (kind tok j) (sign_kind Sign.right-brace) (sign_kind_lem j c), e)
+      rw (eq-eqb (kind tok i) (sign_kind Sign.left_brace) (sign_kind_lem i o), lt-ltb d most_open dd, w, eq-eqb (kind tok j) (sign_kind Sign.right_brace) (sign_kind_lem j c), e)
 
   -- a statement begins with a name or a word, and with no `else`
   record Starts (k : ℕ) : Type 0 where
     pub there : 0 < k
-    pub brace : k ≡ sign_kind Sign.right-brace → ⊥
+    pub brace : k ≡ sign_kind Sign.right_brace → ⊥
     pub else : k ≡ word_kind Word.else → ⊥
 
   starts : (k n : ℕ) → k ≡ n → Starts n → Starts k
@@ -433,12 +433,12 @@ module _ (tok : ℕ → Option Placed) where
   start {i = i} (IsStmt.emit h x c e) = starts (kind tok i) _ (word_kind_lem i (has h)) starts_emit
   start {i = i} (IsStmt.run h b z x c q e) = starts (kind tok i) _ (at_name h) starts_name
 
-  brace_kind : (k : ℕ) → k ≡ sign_kind Sign.right-brace → (0 < k) × (k ≡ word_kind Word.else → ⊥)
+  brace_kind : (k : ℕ) → k ≡ sign_kind Sign.right_brace → (0 < k) × (k ≡ word_kind Word.else → ⊥)
   unfolding sign_kind word_kind
   brace_kind k e = (omega arith, λ w. omega arith)
 
   -- what follows a statement is no `else`
-  after_stmt : {d i j : ℕ} {b : Block} → IsStmts tok d i j b → HasSign tok j Sign.right-brace → kind tok i ≡ word_kind Word.else → ⊥
+  after_stmt : {d i j : ℕ} {b : Block} → IsStmts tok d i j b → HasSign tok j Sign.right_brace → kind tok i ≡ word_kind Word.else → ⊥
   after_stmt {i = i} IsStmts.end c = (brace_kind (kind tok i) (sign_kind_lem i c)).1
   after_stmt (IsStmts.then x r) c = (start x).else
 
@@ -462,7 +462,7 @@ module _ (tok : ℕ → Option Placed) where
     on_block : {d i j : ℕ} {b : Block} → IsBlock tok d i j b → i < j
     on_block (IsBlock.block o z x c e) = omega (arith, on_stmts x)
 
-  open_brace : {d i j : ℕ} {b : Block} → IsBlock tok d i j b → HasSign tok i Sign.left-brace
+  open_brace : {d i j : ℕ} {b : Block} → IsBlock tok d i j b → HasSign tok i Sign.left_brace
   open_brace (IsBlock.block o z x c e) = o
 
   module _ (few : (k : ℕ) → many ≤ k → tok k ≡ Option.none) where
@@ -491,16 +491,16 @@ module _ (tok : ℕ → Option Placed) where
       complete {l} {d} {i} {j} (IsExpr.name p e) h dd f z = prim_step h d i (omega arith) ∙ c_name (levelled tok (h - 1)) d i p e z
       complete {l} {d} {i} {j} (IsExpr.element {j = k} {e = a} p b r x c e) h dd f z =
           prim_step h d i (omega arith)
-          ∙ c_element (levelled tok (h - 1)) d i p b (c_enclosed (levelled tok (h - 1)) d (i + 1) Sign.right-bracket r
-          (two (levelled tok (h - 1) expr_level (d + 1)) (ok a k) i (complete x (h - 1) (omega arith) (omega arith) (ends_follow Sign.right-bracket close_bracket expr_level (kind tok k) (omega arith) (sign_kind_lem k c)))) c e)
+          ∙ c_element (levelled tok (h - 1)) d i p b (c_enclosed (levelled tok (h - 1)) d (i + 1) Sign.right_bracket r
+          (two (levelled tok (h - 1) expr_level (d + 1)) (ok a k) i (complete x (h - 1) (omega arith) (omega arith) (ends_follow Sign.right_bracket close_bracket expr_level (kind tok k) (omega arith) (sign_kind_lem k c)))) c e)
       complete {l} {d} {i} {j} (IsExpr.call {j = k} {es = es} p b r x c e) h dd f z =
           prim_step h d i (omega arith)
           ∙ c_call (levelled tok (h - 1)) d i p b (c_arguments (levelled tok (h - 1)) d (i + 1) r (two (args_of tok (levelled tok (h - 1)) (d + 1)) (ok es k) i (args_complete x (h - 1) (omega arith) (omega arith) c)) c e)
       complete {l} {d} {i} {j} (IsExpr.parens {j = k} b r x c e) h dd f z =
           prim_step h d i (omega arith)
-          ∙ c_parens (levelled tok (h - 1)) d i b (c_enclosed (levelled tok (h - 1)) d i Sign.right-paren r (complete x (h - 1) (omega arith) (omega arith) (ends_follow Sign.right-paren close_paren expr_level (kind tok k) (omega arith) (sign_kind_lem k c))) c e)
+          ∙ c_parens (levelled tok (h - 1)) d i b (c_enclosed (levelled tok (h - 1)) d i Sign.right_paren r (complete x (h - 1) (omega arith) (omega arith) (ends_follow Sign.right_paren close_paren expr_level (kind tok k) (omega arith) (sign_kind_lem k c))) c e)
 
-      args_complete : {d i j : ℕ} {es : Args} → IsArgs tok d i j es → (h : ℕ) → d ≤ most_open → 230 ≤ h + 7 * d → HasSign tok j Sign.right-paren → args_of tok (levelled tok h) d i ≡ ok es j
+      args_complete : {d i j : ℕ} {es : Args} → IsArgs tok d i j es → (h : ℕ) → d ≤ most_open → 230 ≤ h + 7 * d → HasSign tok j Sign.right_paren → args_of tok (levelled tok h) d i ≡ ok es j
       args_complete {d} {i} IsArgs.none h dd f c = c_none (levelled tok h) d i c
       args_complete {d} {i} (IsArgs.some x) h dd f c = c_some (levelled tok h) d i (first_of x).unclosed (exprs_complete x h many dd f (omega arith) c)
 
@@ -521,9 +521,9 @@ module _ (tok : ℕ → Option Placed) where
             grown = grow_more a b p s Tail.done ∙ grow_done (Expr.binary p s a b);
           }
 
-      exprs_complete : {d i k : ℕ} {es : Args} → IsExprs tok d i k es → (h n : ℕ) → d ≤ most_open → 230 ≤ h + 7 * d → many ≤ i + n → HasSign tok k Sign.right-paren → exprs_of tok (levelled tok h) n d i ≡ ok es k
+      exprs_complete : {d i k : ℕ} {es : Args} → IsExprs tok d i k es → (h n : ℕ) → d ≤ most_open → 230 ≤ h + 7 * d → many ≤ i + n → HasSign tok k Sign.right_paren → exprs_of tok (levelled tok h) n d i ≡ ok es k
       exprs_complete {d} {i} {k} (IsExprs.last x) h n dd f m c =
-          c_last (levelled tok h) d i n (omega (arith, early i (first x).there)) (complete x h dd (omega arith) (ends_follow Sign.right-paren close_paren expr_level (kind tok k) (omega arith) (sign_kind_lem k c))) (no_comma (kind tok k) (sign_kind_lem k c))
+          c_last (levelled tok h) d i n (omega (arith, early i (first x).there)) (complete x h dd (omega arith) (ends_follow Sign.right_paren close_paren expr_level (kind tok k) (omega arith) (sign_kind_lem k c))) (no_comma (kind tok k) (sign_kind_lem k c))
       exprs_complete {d} {i} {k} (IsExprs.comma {j = j} x q r) h n dd f m c =
           c_comma (levelled tok h) d i n (omega (arith, early i (first x).there)) (complete x h dd (omega arith) (ends_follow Sign.comma comma expr_level (kind tok j) (omega arith) (sign_kind_lem j q))) q (exprs_complete r h (n - 1) dd f (omega (arith, some x)) c)
 
@@ -535,15 +535,15 @@ module _ (tok : ℕ → Option Placed) where
     ended_complete {d} {i} {j} x dd c e = c_ended d i (expr_complete x dd (ends_follow Sign.semicolon semicolon expr_level (kind tok j) (omega arith) (sign_kind_lem j c))) c e
 
     cond_complete : {d i j k : ℕ} {e : Expr} {b : Block} → IsExpr tok expr_level d i j e → d ≤ most_open → IsBlock tok d j k b → expr_of tok d i ≡ ok e j
-    cond_complete {j = j} x dd b = expr_complete x dd (ends_follow Sign.left-brace brace expr_level (kind tok j) (omega arith) (sign_kind_lem j (open_brace b)))
+    cond_complete {j = j} x dd b = expr_complete x dd (ends_follow Sign.left_brace brace expr_level (kind tok j) (omega arith) (sign_kind_lem j (open_brace b)))
 
-    index_complete : (i : ℕ) {d j k : ℕ} {e : Expr} → IsExpr tok expr_level (d + 1) (i + 2) j e → d < most_open → HasSign tok j Sign.right-bracket → k ≡ j + 1 → index_of tok d (i + 1) ≡ ok e k
+    index_complete : (i : ℕ) {d j k : ℕ} {e : Expr} → IsExpr tok expr_level (d + 1) (i + 2) j e → d < most_open → HasSign tok j Sign.right_bracket → k ≡ j + 1 → index_of tok d (i + 1) ≡ ok e k
     unfolding index_of
     index_complete i {d} {j} {k} {e} x z c q =
-        c_enclosed (levelled tok expr_steps) d (i + 1) Sign.right-bracket z
-        (two (levelled tok expr_steps expr_level (d + 1)) (ok e j) i (complete x expr_steps (omega arith) (omega arith) (ends_follow Sign.right-bracket close_bracket expr_level (kind tok j) (omega arith) (sign_kind_lem j c)))) c q
+        c_enclosed (levelled tok expr_steps) d (i + 1) Sign.right_bracket z
+        (two (levelled tok expr_steps expr_level (d + 1)) (ok e j) i (complete x expr_steps (omega arith) (omega arith) (ends_follow Sign.right_bracket close_bracket expr_level (kind tok j) (omega arith) (sign_kind_lem j c)))) c q
 
-    call_complete : (i : ℕ) {d j k : ℕ} {es : Args} → IsArgs tok (d + 1) (i + 2) j es → d < most_open → HasSign tok j Sign.right-paren → k ≡ j + 1 → call_of tok d (i + 1) ≡ ok es k
+    call_complete : (i : ℕ) {d j k : ℕ} {es : Args} → IsArgs tok (d + 1) (i + 2) j es → d < most_open → HasSign tok j Sign.right_paren → k ≡ j + 1 → call_of tok d (i + 1) ≡ ok es k
     unfolding call_of
     call_complete i {d} {j} {k} {es} x z c q =
         c_arguments (levelled tok expr_steps) d (i + 1) z (two (args_of tok (levelled tok expr_steps) (d + 1)) (ok es j) i (args_complete x expr_steps (omega arith) (omega arith) c)) c q
@@ -569,7 +569,7 @@ module _ (tok : ℕ → Option Placed) where
           let g : j ≡ m + 1 + 1 = e ∙ omega arith in
           c_run (block_of tok h) d i n b (call_complete i x r c refl) q g
 
-      stmts_complete : {d i k : ℕ} {b : Block} → IsStmts tok d i k b → (h n : ℕ) → d ≤ most_open → 33 ≤ h + d → many ≤ i + n → HasSign tok k Sign.right-brace → stmts_of tok (block_of tok h) n d i ≡ ok b k
+      stmts_complete : {d i k : ℕ} {b : Block} → IsStmts tok d i k b → (h n : ℕ) → d ≤ most_open → 33 ≤ h + d → many ≤ i + n → HasSign tok k Sign.right_brace → stmts_of tok (block_of tok h) n d i ≡ ok b k
       stmts_complete {d} {i} {k} IsStmts.end h n dd f m c = c_end (block_of tok h) d i n (omega (arith, early i (brace_kind (kind tok i) (sign_kind_lem i c)).0)) c
       stmts_complete {d} {i} {k} (IsStmts.then {j = j} x r) h n dd f m c =
           c_then (block_of tok h) d i n (omega (arith, early i (start x).there)) (start x).brace (stmt_complete x h dd f (after_stmt r c)) (stmts_complete r h (n - 1) dd f (omega (arith, on_stmt x)) c)
@@ -603,47 +603,47 @@ module _ (tok : ℕ → Option Placed) where
     list_first (IsParamList.last x) = (param_first x).0
     list_first (IsParamList.comma x c r) = (param_first x).0
 
-    list_complete : {i k : ℕ} {xs : List Param} → IsParamList tok i k xs → (n : ℕ) → many ≤ i + n → HasSign tok k Sign.right-paren → param_list_of tok n i ≡ ok xs k
+    list_complete : {i k : ℕ} {xs : List Param} → IsParamList tok i k xs → (n : ℕ) → many ≤ i + n → HasSign tok k Sign.right_paren → param_list_of tok n i ≡ ok xs k
     list_complete {i} {k} (IsParamList.last x) n m c = c_param_last n i (omega (arith, early i (omega (arith, (param_first x).0)))) (param_complete x) (no_comma (kind tok k) (sign_kind_lem k c))
     list_complete {i} {k} (IsParamList.comma x q r) n m c = c_param_comma n i (omega (arith, early i (omega (arith, (param_first x).0)))) (param_complete x) q (list_complete r (n - 1) (omega (arith, (param_first x).1)) c)
 
-    name_paren : (k : ℕ) → k ≡ 1 → k ≡ sign_kind Sign.right-paren → ⊥
+    name_paren : (k : ℕ) → k ≡ 1 → k ≡ sign_kind Sign.right_paren → ⊥
     unfolding sign_kind
     name_paren k a b = omega arith
 
-    params_complete : {i k : ℕ} {xs : List Param} → IsParams tok i k xs → HasSign tok k Sign.right-paren → params_of tok i ≡ ok xs k
+    params_complete : {i k : ℕ} {xs : List Param} → IsParams tok i k xs → HasSign tok k Sign.right_paren → params_of tok i ≡ ok xs k
     unfolding params_of
-    params_complete {i} IsParams.none c = rw (eq-eqb (kind tok i) (sign_kind Sign.right-paren) (sign_kind_lem i c))
-    params_complete {i} (IsParams.some x) c = rw (ne_eqb (kind tok i) (sign_kind Sign.right-paren) (name_paren (kind tok i) (list_first x)), list_complete x many (omega arith) c)
+    params_complete {i} IsParams.none c = rw (eq-eqb (kind tok i) (sign_kind Sign.right_paren) (sign_kind_lem i c))
+    params_complete {i} (IsParams.some x) c = rw (ne_eqb (kind tok i) (sign_kind Sign.right_paren) (name_paren (kind tok i) (list_first x)), list_complete x many (omega arith) c)
 
-    brace_colon : (k : ℕ) → k ≡ sign_kind Sign.left-brace → k ≡ sign_kind Sign.colon → ⊥
+    brace_colon : (k : ℕ) → k ≡ sign_kind Sign.left_brace → k ≡ sign_kind Sign.colon → ⊥
     unfolding sign_kind
     brace_colon k a b = omega arith
 
-    result_complete : {i k : ℕ} {t : Option Ty} → IsResult tok i k t → HasSign tok k Sign.left-brace → result_of tok i ≡ ok t k
+    result_complete : {i k : ℕ} {t : Option Ty} → IsResult tok i k t → HasSign tok k Sign.left_brace → result_of tok i ≡ ok t k
     unfolding result_of
     result_complete {i} IsResult.none c = rw (ne_eqb (kind tok i) (sign_kind Sign.colon) (brace_colon (kind tok i) (sign_kind_lem i c)))
     result_complete {i} (IsResult.some q t e) c = let g : i + 1 + 1 ≡ i + 2 = omega arith in rw (eq-eqb (kind tok i) (sign_kind Sign.colon) (sign_kind_lem i q), c_type (i + 1) t, e, g)
 
-    size_step : (i : ℕ) {n : ℕ} → HasSign tok (i + 4) Sign.left-bracket → Has tok (i + 5) (Token.number n) → HasSign tok (i + 6) Sign.right-bracket → HasSign tok (i + 7) Sign.semicolon → size_of tok (i + 4) ≡ ok n (i + 8)
+    size_step : (i : ℕ) {n : ℕ} → HasSign tok (i + 4) Sign.left_bracket → Has tok (i + 5) (Token.number n) → HasSign tok (i + 6) Sign.right_bracket → HasSign tok (i + 7) Sign.semicolon → size_of tok (i + 4) ≡ ok n (i + 8)
     unfolding size_of
     size_step i {n} a m b s =
         let f : i + 4 + 1 ≡ i + 5 = omega arith in
         let g : i + 4 + 2 ≡ i + 6 = omega arith in
         let h : i + 4 + 3 ≡ i + 7 = omega arith in
         let k : i + 4 + 4 ≡ i + 8 = omega arith in
-        rw (eq-eqb (kind tok (i + 4)) (sign_kind Sign.left-bracket) (sign_kind_lem (i + 4) a), f, g, h, k, num_kind (i + 5) m, eq-eqb (kind tok (i + 6)) (sign_kind Sign.right-bracket) (sign_kind_lem (i + 6) b), eq-eqb (kind tok (i + 7)) (sign_kind Sign.semicolon) (sign_kind_lem (i + 7) s), number_has (tok (i + 5)) m)
+        rw (eq-eqb (kind tok (i + 4)) (sign_kind Sign.left_bracket) (sign_kind_lem (i + 4) a), f, g, h, k, num_kind (i + 5) m, eq-eqb (kind tok (i + 6)) (sign_kind Sign.right_bracket) (sign_kind_lem (i + 6) b), eq-eqb (kind tok (i + 7)) (sign_kind Sign.semicolon) (sign_kind_lem (i + 7) s), number_has (tok (i + 5)) m)
 
     array_step : (i : ℕ) {j n : ℕ} {p : Place} {x : Name} → HasWord tok i Word.var → At tok (i + 1) (Token.name x) p → HasSign tok (i + 2) Sign.colon → HasWord tok (i + 3) Word.int → size_of tok (i + 4) ≡ ok n (i + 8) → j ≡ i + 8 → item_of tok i ≡ ok (Item.array p x n) j
     unfolding item_of array_of place_in name_in name_of
     array_step i w h c t z e =
         rw (eq-eqb (kind tok i) (word_kind Word.var) (word_kind_lem i w), at_name h, eq-eqb (kind tok (i + 2)) (sign_kind Sign.colon) (sign_kind_lem (i + 2) c), eq-eqb (kind tok (i + 3)) (word_kind Word.int) (word_kind_lem (i + 3) t), z, h, e)
 
-    function_step : (i : ℕ) {j k l : ℕ} {p : Place} {x : Name} {xs : List Param} {t : Option Ty} {b : Block} → HasWord tok i Word.fn → At tok (i + 1) (Token.name x) p → HasSign tok (i + 2) Sign.left-paren → params_of tok (i + 3) ≡ ok xs j → HasSign tok j Sign.right-paren → result_of tok (j + 1) ≡ ok t k → block_of tok block_steps 0 k ≡ ok b l
+    function_step : (i : ℕ) {j k l : ℕ} {p : Place} {x : Name} {xs : List Param} {t : Option Ty} {b : Block} → HasWord tok i Word.fn → At tok (i + 1) (Token.name x) p → HasSign tok (i + 2) Sign.left_paren → params_of tok (i + 3) ≡ ok xs j → HasSign tok j Sign.right_paren → result_of tok (j + 1) ≡ ok t k → block_of tok block_steps 0 k ≡ ok b l
         → item_of tok i ≡ ok (Item.function p x xs t b) l
     unfolding item_of function_of body_of place_in name_in name_of word_kind
     function_step i {j} w h a x c t b =
-        rw (word_kind_lem i w, at_name h, eq-eqb (kind tok (i + 2)) (sign_kind Sign.left-paren) (sign_kind_lem (i + 2) a), x, eq-eqb (kind tok j) (sign_kind Sign.right-paren) (sign_kind_lem j c), t, b, h)
+        rw (word_kind_lem i w, at_name h, eq-eqb (kind tok (i + 2)) (sign_kind Sign.left_paren) (sign_kind_lem (i + 2) a), x, eq-eqb (kind tok j) (sign_kind Sign.right_paren) (sign_kind_lem j c), t, b, h)
 
     item_complete : {i j : ℕ} {x : Item} → IsItem tok i j x → (item_of tok i ≡ ok x j) × (i < j)
     item_complete {i} {j} (IsItem.array w h c t a m b s e) = (array_step i w h c t (size_step i a m b s) e, omega arith)

@@ -80,7 +80,7 @@ module _ (tok : ℕ → Option Placed) where
     pub depth : d < most_open
     pub end : ℕ
     pub inside : IsArgs tok (d + 1) (i + 1) end es
-    pub close : HasSign tok end Sign.right-paren
+    pub close : HasSign tok end Sign.right_paren
     pub after : k ≡ end + 1
 
   module _ (sub : ℕ → ℕ → ℕ → Out Expr) (S : (l d i : ℕ) → 0 < l → l ≤ unary_level → Good (ExprIs l d i) (sub l d i)) where
@@ -128,7 +128,7 @@ module _ (tok : ℕ → Option Placed) where
 
     args_sound : (d i : ℕ) → Good (ArgsIs d i) (args_of tok sub d i)
     unfolding args_of
-    args_sound d i = sign_g (ArgsIs d i) i Sign.right-paren _ _ (λ _. IsArgs.none) (map_good (exprs_of tok sub many d i) (exprs_sound many d i))
+    args_sound d i = sign_g (ArgsIs d i) i Sign.right_paren _ _ (λ _. IsArgs.none) (map_good (exprs_of tok sub many d i) (exprs_sound many d i))
       where
         map_good : (o : Out Args) → Good (ExprsIs d i) o → Good (ArgsIs d i) o
         map_good (ok es j) h = IsArgs.some h
@@ -138,7 +138,7 @@ module _ (tok : ℕ → Option Placed) where
     unfolding arguments_of
     arguments_sound d i =
         opening_g (Arguments d i) d i _ (λ h. next_g (ArgsIs (d + 1) (i + 1)) (Arguments d i) (args_of tok sub (d + 1) (i + 1)) _ (args_sound (d + 1) (i + 1)) (λ es j x.
-        expect_g (Arguments d i) j Sign.right-paren _ (λ c. record { depth = h; end = j; inside = x; close = c; after = refl })))
+        expect_g (Arguments d i) j Sign.right_paren _ (λ c. record { depth = h; end = j; inside = x; close = c; after = refl })))
 
     enclosed_sound : (s : Sign) (d i : ℕ) → Good (Enclosed s d i) (enclosed_of tok sub (sign_kind s) d i)
     unfolding enclosed_of
@@ -152,10 +152,10 @@ module _ (tok : ℕ → Option Placed) where
     named_sound : (d i : ℕ) → At tok i (Token.name (name_at tok i)) (place_of tok i) → Good (ExprIs unary_level d i) (named_of tok sub d i)
     unfolding named_of
     named_sound d i h =
-        sign_g (ExprIs unary_level d i) (i + 1) Sign.left-bracket _ _
-        (λ b. map_g (Enclosed Sign.right-bracket d (i + 1)) (ExprIs unary_level d i) (enclosed_of tok sub (sign_kind Sign.right-bracket) d (i + 1)) _ (enclosed_sound Sign.right-bracket d (i + 1)) (λ e k x.
+        sign_g (ExprIs unary_level d i) (i + 1) Sign.left_bracket _ _
+        (λ b. map_g (Enclosed Sign.right_bracket d (i + 1)) (ExprIs unary_level d i) (enclosed_of tok sub (sign_kind Sign.right_bracket) d (i + 1)) _ (enclosed_sound Sign.right_bracket d (i + 1)) (λ e k x.
         IsExpr.element h (has b) x.depth (subst (λ (m : ℕ). IsExpr tok expr_level (d + 1) m x.end e) (two i) x.inside) x.close x.after))
-        (sign_g (ExprIs unary_level d i) (i + 1) Sign.left-paren _ _
+        (sign_g (ExprIs unary_level d i) (i + 1) Sign.left_paren _ _
         (λ b. map_g (Arguments d (i + 1)) (ExprIs unary_level d i) (arguments_of tok sub d (i + 1)) _ (arguments_sound d (i + 1)) (λ es k x.
         IsExpr.call h (has b) x.depth (subst (λ (m : ℕ). IsArgs tok (d + 1) m x.end es) (two i) x.inside) x.close x.after))
         (IsExpr.name h refl))
@@ -174,7 +174,7 @@ module _ (tok : ℕ → Option Placed) where
     unfolding unaries
     bang_row = In.there (In.here refl)
 
-    parens_sound : (d i : ℕ) → At tok i (Token.sign Sign.left-paren) (place_of tok i) → (o : Out Expr) → Good (Enclosed Sign.right-paren d i) o → Good (ExprIs unary_level d i) o
+    parens_sound : (d i : ℕ) → At tok i (Token.sign Sign.left_paren) (place_of tok i) → (o : Out Expr) → Good (Enclosed Sign.right_paren d i) o → Good (ExprIs unary_level d i) o
     parens_sound d i b (ok e k) x = IsExpr.parens (has b) x.depth x.inside x.close x.after
     parens_sound d i b (bad p) x = tt
 
@@ -185,7 +185,7 @@ module _ (tok : ℕ → Option Placed) where
         (name_g (ExprIs unary_level d i) i _ _ (λ h. named_sound d i h)
         (word_g (ExprIs unary_level d i) i Word.true _ _ (λ h. IsExpr.true (has h) refl)
         (word_g (ExprIs unary_level d i) i Word.false _ _ (λ h. IsExpr.false (has h) refl)
-        (sign_g (ExprIs unary_level d i) i Sign.left-paren _ _ (λ h. parens_sound d i h (enclosed_of tok sub (sign_kind Sign.right-paren) d i) (enclosed_sound Sign.right-paren d i))
+        (sign_g (ExprIs unary_level d i) i Sign.left_paren _ _ (λ h. parens_sound d i h (enclosed_of tok sub (sign_kind Sign.right_paren) d i) (enclosed_sound Sign.right_paren d i))
         (sign_g (ExprIs unary_level d i) i Sign.minus _ _ (λ h. unary_sound Unary.negate Sign.minus d i minus_row h)
         (sign_g (ExprIs unary_level d i) i Sign.bang _ _ (λ h. unary_sound Unary.not Sign.bang d i bang_row h) tt))))))
 
@@ -206,9 +206,9 @@ module _ (tok : ℕ → Option Placed) where
   unfolding expr_of
   expr_sound d i = levelled_sound expr_steps expr_level d i (omega arith) (omega arith)
 
-  index_sound : (d i : ℕ) → Good (Enclosed Sign.right-bracket d i) (index_of tok d i)
+  index_sound : (d i : ℕ) → Good (Enclosed Sign.right_bracket d i) (index_of tok d i)
   unfolding index_of
-  index_sound d i = enclosed_sound (levelled tok expr_steps) (levelled_sound expr_steps) Sign.right-bracket d i
+  index_sound d i = enclosed_sound (levelled tok expr_steps) (levelled_sound expr_steps) Sign.right_bracket d i
 
   call_sound : (d i : ℕ) → Good (Arguments d i) (call_of tok d i)
   unfolding call_of
@@ -280,17 +280,17 @@ module _ (tok : ℕ → Option Placed) where
   unfolding assign_of
   assign_sound d i h q = map_g (Ended d (i + 2)) (StmtIs d i) (ended_of tok d (i + 2)) _ (ended_sound d (i + 2)) (λ e k y. IsStmt.assign h q y.inside y.close y.after)
 
-  store_sound : (d i : ℕ) → At tok i (Token.name (name_at tok i)) (place_of tok i) → HasSign tok (i + 1) Sign.left-bracket → Good (StmtIs d i) (store_of tok d i)
+  store_sound : (d i : ℕ) → At tok i (Token.name (name_at tok i)) (place_of tok i) → HasSign tok (i + 1) Sign.left_bracket → Good (StmtIs d i) (store_of tok d i)
   unfolding store_of
   store_sound d i h b =
-      next_g (Enclosed Sign.right-bracket d (i + 1)) (StmtIs d i) (index_of tok d (i + 1)) _ (index_sound d (i + 1)) (λ a j x.
+      next_g (Enclosed Sign.right_bracket d (i + 1)) (StmtIs d i) (index_of tok d (i + 1)) _ (index_sound d (i + 1)) (λ a j x.
       expect_g (StmtIs d i) j Sign.equals _ (λ q.
       map_g (Ended d (j + 1)) (StmtIs d i) (ended_of tok d (j + 1)) _ (ended_sound d (j + 1)) (λ e k y.
       let s : i + 1 + 1 ≡ i + 2 = omega arith in
       let r : j + 1 ≡ x.end + 2 = omega (arith, x.after) in
       IsStmt.store h b x.depth (subst (λ (m : ℕ). IsExpr tok expr_level (d + 1) m x.end a) s x.inside) x.close (subst (λ (m : ℕ). HasSign tok m Sign.equals) x.after q) (subst (λ (m : ℕ). IsExpr tok expr_level d m y.end e) r y.inside) y.close y.after)))
 
-  run_sound : (d i : ℕ) → At tok i (Token.name (name_at tok i)) (place_of tok i) → HasSign tok (i + 1) Sign.left-paren → Good (StmtIs d i) (run_of tok d i)
+  run_sound : (d i : ℕ) → At tok i (Token.name (name_at tok i)) (place_of tok i) → HasSign tok (i + 1) Sign.left_paren → Good (StmtIs d i) (run_of tok d i)
   unfolding run_of
   run_sound d i h b =
       next_g (Arguments d (i + 1)) (StmtIs d i) (call_of tok d (i + 1)) _ (call_sound d (i + 1)) (λ es j x.
@@ -303,8 +303,8 @@ module _ (tok : ℕ → Option Placed) where
   unfolding change_of
   change_sound d i h =
       sign_g (StmtIs d i) (i + 1) Sign.equals _ _ (λ q. assign_sound d i h (has q))
-      (sign_g (StmtIs d i) (i + 1) Sign.left-bracket _ _ (λ q. store_sound d i h (has q))
-      (sign_g (StmtIs d i) (i + 1) Sign.left-paren _ _ (λ q. run_sound d i h (has q)) tt))
+      (sign_g (StmtIs d i) (i + 1) Sign.left_bracket _ _ (λ q. store_sound d i h (has q))
+      (sign_g (StmtIs d i) (i + 1) Sign.left_paren _ _ (λ q. run_sound d i h (has q)) tt))
 
   return_sound : (d i : ℕ) → At tok i (Token.word Word.return) (place_of tok i) → Good (StmtIs d i) (return_of tok d i)
   unfolding return_of
@@ -348,7 +348,7 @@ module _ (tok : ℕ → Option Placed) where
     unfolding stmts_of
     stmts_sound zero d i = tt
     stmts_sound (suc n) d i =
-        sign_g (StmtsIs d i) i Sign.right-brace _ _ (λ _. IsStmts.end)
+        sign_g (StmtsIs d i) i Sign.right_brace _ _ (λ _. IsStmts.end)
         (next_g (StmtIs d i) (StmtsIs d i) (stmt_of tok block d i) _ (stmt_sound d i) (λ s j x.
         map_g (StmtsIs d j) (StmtsIs d i) (stmts_of tok block n d j) _ (stmts_sound n d j) (λ b k y. IsStmts.then x y)))
 
@@ -356,9 +356,9 @@ module _ (tok : ℕ → Option Placed) where
   unfolding block_of
   block_sound zero d i = tt
   block_sound (suc h) d i =
-      expect_g (BlockIs d i) i Sign.left-brace _ (λ q. opening_g (BlockIs d i) d i _ (λ z.
+      expect_g (BlockIs d i) i Sign.left_brace _ (λ q. opening_g (BlockIs d i) d i _ (λ z.
       next_g (StmtsIs (d + 1) (i + 1)) (BlockIs d i) (stmts_of tok (block_of tok h) many (d + 1) (i + 1)) _ (stmts_sound (block_of tok h) (block_sound h) many (d + 1) (i + 1)) (λ b j x.
-      expect_g (BlockIs d i) j Sign.right-brace _ (λ c. IsBlock.block q z x c refl))))
+      expect_g (BlockIs d i) j Sign.right_brace _ (λ c. IsBlock.block q z x c refl))))
 
   -- Arrays and functions.
 
@@ -390,7 +390,7 @@ module _ (tok : ℕ → Option Placed) where
 
   params_sound : (i : ℕ) → Good (ParamsIs i) (params_of tok i)
   unfolding params_of
-  params_sound i = sign_g (ParamsIs i) i Sign.right-paren _ _ (λ _. IsParams.none) (go (param_list_of tok many i) (list_sound many i))
+  params_sound i = sign_g (ParamsIs i) i Sign.right_paren _ _ (λ _. IsParams.none) (go (param_list_of tok many i) (list_sound many i))
     where
       go : (o : Out (List Param)) → Good (ListIs i) o → Good (ParamsIs i) o
       go (ok xs j) h = IsParams.some h
@@ -402,16 +402,16 @@ module _ (tok : ℕ → Option Placed) where
       sign_g (ResultIs i) i Sign.colon _ _ (λ c. map_g (TypeIs (i + 1)) (ResultIs i) (type_of tok (i + 1)) _ (type_sound (i + 1)) (λ t j x. IsResult.some (has c) x.is (x.after ∙ omega arith))) IsResult.none
 
   record Size (i n j : ℕ) : Type 0 where
-    pub left : HasSign tok i Sign.left-bracket
+    pub left : HasSign tok i Sign.left_bracket
     pub number : Has tok (i + 1) (Token.number n)
-    pub right : HasSign tok (i + 2) Sign.right-bracket
+    pub right : HasSign tok (i + 2) Sign.right_bracket
     pub close : HasSign tok (i + 3) Sign.semicolon
     pub after : j ≡ i + 4
 
   size_sound : (i : ℕ) → Good (Size i) (size_of tok i)
   unfolding size_of
   size_sound i =
-      expect_g (Size i) i Sign.left-bracket _ (λ a. number_g (Size i) (i + 1) _ _ (λ b. expect_g (Size i) (i + 2) Sign.right-bracket _ (λ c. expect_g (Size i) (i + 3) Sign.semicolon _ (λ d.
+      expect_g (Size i) i Sign.left_bracket _ (λ a. number_g (Size i) (i + 1) _ _ (λ b. expect_g (Size i) (i + 2) Sign.right_bracket _ (λ c. expect_g (Size i) (i + 3) Sign.semicolon _ (λ d.
       record { left = a; number = has b; right = c; close = d; after = refl }))) tt)
 
   array_sound : (i : ℕ) → HasWord tok i Word.var → Good (ItemIs i) (array_of tok i)
@@ -422,13 +422,13 @@ module _ (tok : ℕ → Option Placed) where
       let p : i + 4 + 1 ≡ i + 5 = omega arith in
       let q : i + 4 + 2 ≡ i + 6 = omega arith in
       let r : i + 4 + 3 ≡ i + 7 = omega arith in
-      IsItem.array h n c (has w) x.left (subst (λ (k : ℕ). Has tok k (Token.number m)) p x.number) (subst (λ (k : ℕ). HasSign tok k Sign.right-bracket) q x.right) (subst (λ (k : ℕ). HasSign tok k Sign.semicolon) r x.close) (x.after ∙ omega arith))) tt)) tt
+      IsItem.array h n c (has w) x.left (subst (λ (k : ℕ). Has tok k (Token.number m)) p x.number) (subst (λ (k : ℕ). HasSign tok k Sign.right_bracket) q x.right) (subst (λ (k : ℕ). HasSign tok k Sign.semicolon) r x.close) (x.after ∙ omega arith))) tt)) tt
 
   function_sound : (i : ℕ) → HasWord tok i Word.fn → Good (ItemIs i) (function_of tok i)
   unfolding function_of body_of
   function_sound i h =
-      name_g (ItemIs i) (i + 1) _ _ (λ n. expect_g (ItemIs i) (i + 2) Sign.left-paren _ (λ a.
-      next_g (ParamsIs (i + 3)) (ItemIs i) (params_of tok (i + 3)) _ (params_sound (i + 3)) (λ xs j x. expect_g (ItemIs i) j Sign.right-paren _ (λ c.
+      name_g (ItemIs i) (i + 1) _ _ (λ n. expect_g (ItemIs i) (i + 2) Sign.left_paren _ (λ a.
+      next_g (ParamsIs (i + 3)) (ItemIs i) (params_of tok (i + 3)) _ (params_sound (i + 3)) (λ xs j x. expect_g (ItemIs i) j Sign.right_paren _ (λ c.
       next_g (ResultIs (j + 1)) (ItemIs i) (result_of tok (j + 1)) _ (result_sound (j + 1)) (λ t k y.
       map_g (BlockIs 0 k) (ItemIs i) (block_of tok block_steps 0 k) _ (block_sound block_steps 0 k) (λ b m z. IsItem.function h n a x c y z)))))) tt
 

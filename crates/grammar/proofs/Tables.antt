@@ -10,7 +10,7 @@ use borrow.Author.Tests.{ne_eqb}
 use Rattle.language.specs.Tree.{Binary}
 use Rattle.language.specs.Grammar.{Operator, operators}
 use Rattle.tokens.specs.Kinds.{sign_kind}
-use Rattle.grammar.specs.Parse.{level_in_lem, means_in, level_of, means_of}
+use Rattle.grammar.specs.Parse.{level_in, means_in, level_of, means_of}
 use Rattle.grammar.specs.Flat.{strict_number}
 use Rattle.grammar.proofs.TokenKinds.{sign_low}
 use Rattle.grammar.specs.Told.{item_kind, item_number}
@@ -27,8 +27,8 @@ tabulated f z i (suc n) zero h = ap f (omega arith)
 tabulated f z i (suc n) (suc k) h = let q : suc i + k ≡ i + suc k = omega arith in tabulated f z (suc i) n k (omega arith) ∙ ap f q
 
 -- the kinds past those of signs
-level_in_lem : (rs : List Operator) (k : ℕ) → 27 ≤ k → level_in_lem rs k ≡ 0
-unfolding level_in_lem
+level_in_lem : (rs : List Operator) (k : ℕ) → 27 ≤ k → level_in rs k ≡ 0
+unfolding level_in
 level_in_lem [] k h = refl
 level_in_lem (r ∷ rs) k h = rw (ne_eqb (sign_kind r.spelt) k (λ e. omega (arith, sign_low r.spelt))) (level_in_lem rs k h)
 
@@ -54,7 +54,7 @@ abbrev pub levels : List ℕ
 levels = 0 ∷ 0 ∷ 0 ∷ 3 ∷ 3 ∷ 3 ∷ 3 ∷ 2 ∷ 1 ∷ 4 ∷ 4 ∷ 5 ∷ 5 ∷ 5 ∷ 3 ∷ 3 ∷ 0 ∷ 0 ∷ 0 ∷ 0 ∷ 0 ∷ 0 ∷ 0 ∷ 0 ∷ 0 ∷ 0 ∷ 0 ∷ []
 
 levels_are : tabulate level_of 0 27 ≡ levels
-unfolding tabulate level_of level_in_lem operators sign_kind
+unfolding tabulate level_of level_in operators sign_kind
 levels_are = refl
 
 pub level_table : (k z : ℕ) → k < 27 → get_or levels k z ≡ level_of k

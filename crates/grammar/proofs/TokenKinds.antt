@@ -22,11 +22,11 @@ use Rattle.grammar.specs.Parse.{kind_in, place_in, name_in, name_of, number_in, 
 sign_table : List (Option Sign)
 sign_table =
     Option.none ∷ Option.none ∷ Option.none
-    ∷ Option.some Sign.double-equals ∷ Option.some Sign.bang-equals ∷ Option.some Sign.less-equals ∷ Option.some Sign.greater-equals
-    ∷ Option.some Sign.double-ampersand ∷ Option.some Sign.double-bar ∷ Option.some Sign.plus ∷ Option.some Sign.minus ∷ Option.some Sign.star
+    ∷ Option.some Sign.double_equals ∷ Option.some Sign.bang_equals ∷ Option.some Sign.less_equals ∷ Option.some Sign.greater_equals
+    ∷ Option.some Sign.double_ampersand ∷ Option.some Sign.double_bar ∷ Option.some Sign.plus ∷ Option.some Sign.minus ∷ Option.some Sign.star
     ∷ Option.some Sign.slash ∷ Option.some Sign.percent ∷ Option.some Sign.less ∷ Option.some Sign.greater ∷ Option.some Sign.equals
-    ∷ Option.some Sign.bang ∷ Option.some Sign.left-paren ∷ Option.some Sign.right-paren ∷ Option.some Sign.left-brace
-    ∷ Option.some Sign.right-brace ∷ Option.some Sign.left-bracket ∷ Option.some Sign.right-bracket ∷ Option.some Sign.colon
+    ∷ Option.some Sign.bang ∷ Option.some Sign.left_paren ∷ Option.some Sign.right_paren ∷ Option.some Sign.left_brace
+    ∷ Option.some Sign.right_brace ∷ Option.some Sign.left_bracket ∷ Option.some Sign.right_bracket ∷ Option.some Sign.colon
     ∷ Option.some Sign.semicolon ∷ Option.some Sign.comma ∷ []
 
 as_sign : ℕ → Option Sign
@@ -45,12 +45,12 @@ as_word k =
 
 sign_back : (s : Sign) → as_sign (sign_kind s) ≡ Option.some s
 unfolding as_sign sign_kind
-sign_back Sign.double-equals = refl
-sign_back Sign.bang-equals = refl
-sign_back Sign.less-equals = refl
-sign_back Sign.greater-equals = refl
-sign_back Sign.double-ampersand = refl
-sign_back Sign.double-bar = refl
+sign_back Sign.double_equals = refl
+sign_back Sign.bang_equals = refl
+sign_back Sign.less_equals = refl
+sign_back Sign.greater_equals = refl
+sign_back Sign.double_ampersand = refl
+sign_back Sign.double_bar = refl
 sign_back Sign.plus = refl
 sign_back Sign.minus = refl
 sign_back Sign.star = refl
@@ -60,24 +60,24 @@ sign_back Sign.less = refl
 sign_back Sign.greater = refl
 sign_back Sign.equals = refl
 sign_back Sign.bang = refl
-sign_back Sign.left-paren = refl
-sign_back Sign.right-paren = refl
-sign_back Sign.left-brace = refl
-sign_back Sign.right-brace = refl
-sign_back Sign.left-bracket = refl
-sign_back Sign.right-bracket = refl
+sign_back Sign.left_paren = refl
+sign_back Sign.right_paren = refl
+sign_back Sign.left_brace = refl
+sign_back Sign.right_brace = refl
+sign_back Sign.left_bracket = refl
+sign_back Sign.right_bracket = refl
 sign_back Sign.colon = refl
 sign_back Sign.semicolon = refl
 sign_back Sign.comma = refl
 
 sign_no_word : (s : Sign) → as_word (sign_kind s) ≡ Option.none
 unfolding as_word sign_kind
-sign_no_word Sign.double-equals = refl
-sign_no_word Sign.bang-equals = refl
-sign_no_word Sign.less-equals = refl
-sign_no_word Sign.greater-equals = refl
-sign_no_word Sign.double-ampersand = refl
-sign_no_word Sign.double-bar = refl
+sign_no_word Sign.double_equals = refl
+sign_no_word Sign.bang_equals = refl
+sign_no_word Sign.less_equals = refl
+sign_no_word Sign.greater_equals = refl
+sign_no_word Sign.double_ampersand = refl
+sign_no_word Sign.double_bar = refl
 sign_no_word Sign.plus = refl
 sign_no_word Sign.minus = refl
 sign_no_word Sign.star = refl
@@ -87,12 +87,12 @@ sign_no_word Sign.less = refl
 sign_no_word Sign.greater = refl
 sign_no_word Sign.equals = refl
 sign_no_word Sign.bang = refl
-sign_no_word Sign.left-paren = refl
-sign_no_word Sign.right-paren = refl
-sign_no_word Sign.left-brace = refl
-sign_no_word Sign.right-brace = refl
-sign_no_word Sign.left-bracket = refl
-sign_no_word Sign.right-bracket = refl
+sign_no_word Sign.left_paren = refl
+sign_no_word Sign.right_paren = refl
+sign_no_word Sign.left_brace = refl
+sign_no_word Sign.right_brace = refl
+sign_no_word Sign.left_bracket = refl
+sign_no_word Sign.right_bracket = refl
 sign_no_word Sign.colon = refl
 sign_no_word Sign.semicolon = refl
 sign_no_word Sign.comma = refl

@@ -153,10 +153,10 @@ module _ (tok : ℕ → Option Placed) where
 
     -- "(" [ expr { "," expr } ] ")"
     unfoldable pub args_of : ℕ → ℕ → Out Args
-    args_of d i = pick (is_sign i Sign.right-paren) (ok Args.none i) (exprs_of many d i)
+    args_of d i = pick (is_sign i Sign.right_paren) (ok Args.none i) (exprs_of many d i)
 
     unfoldable pub arguments_of : ℕ → ℕ → Out Args
-    arguments_of d i = opening d i (next (args_of (d + 1) (i + 1)) (λ es j. expect j Sign.right-paren (ok es (j + 1))))
+    arguments_of d i = opening d i (next (args_of (d + 1) (i + 1)) (λ es j. expect j Sign.right_paren (ok es (j + 1))))
 
     -- "(" expr ")" and "[" expr "]", by the kind of the sign that closes them
     unfoldable pub enclosed_of : ℕ → ℕ → ℕ → Out Expr
@@ -165,8 +165,8 @@ module _ (tok : ℕ → Option Placed) where
     -- name | name "[" expr "]" | name "(" [ expr { "," expr } ] ")"
     unfoldable pub named_of : ℕ → ℕ → Out Expr
     named_of d i =
-        pick (is_sign (i + 1) Sign.left-bracket) (map (Expr.element (place_of i) (name_at i)) (enclosed_of (sign_kind Sign.right-bracket) d (i + 1)))
-        (pick (is_sign (i + 1) Sign.left-paren) (map (Expr.call (place_of i) (name_at i)) (arguments_of d (i + 1)))
+        pick (is_sign (i + 1) Sign.left_bracket) (map (Expr.element (place_of i) (name_at i)) (enclosed_of (sign_kind Sign.right_bracket) d (i + 1)))
+        (pick (is_sign (i + 1) Sign.left_paren) (map (Expr.call (place_of i) (name_at i)) (arguments_of d (i + 1)))
         (ok (Expr.name (place_of i) (name_at i)) (i + 1)))
 
     -- ( "-" | "!" ) unary
@@ -180,7 +180,7 @@ module _ (tok : ℕ → Option Placed) where
         (pick (is_name i) (named_of d i)
         (pick (is_word i Word.true) (ok (Expr.truth true) (i + 1))
         (pick (is_word i Word.false) (ok (Expr.truth false) (i + 1))
-        (pick (is_sign i Sign.left-paren) (enclosed_of (sign_kind Sign.right-paren) d i)
+        (pick (is_sign i Sign.left_paren) (enclosed_of (sign_kind Sign.right_paren) d i)
         (pick (is_sign i Sign.minus) (unary_of Unary.negate d i)
         (pick (is_sign i Sign.bang) (unary_of Unary.not d i)
         (bad i)))))))
@@ -197,7 +197,7 @@ module _ (tok : ℕ → Option Placed) where
   expr_of d i = levelled expr_steps expr_level d i
 
   unfoldable pub index_of : ℕ → ℕ → Out Expr
-  index_of d i = enclosed_of (levelled expr_steps) (sign_kind Sign.right-bracket) d i
+  index_of d i = enclosed_of (levelled expr_steps) (sign_kind Sign.right_bracket) d i
 
   unfoldable pub call_of : ℕ → ℕ → Out Args
   call_of d i = arguments_of (levelled expr_steps) d i
@@ -237,8 +237,8 @@ module _ (tok : ℕ → Option Placed) where
   unfoldable pub change_of : ℕ → ℕ → Out Stmt
   change_of d i =
       pick (is_sign (i + 1) Sign.equals) (assign_of d i)
-      (pick (is_sign (i + 1) Sign.left-bracket) (store_of d i)
-      (pick (is_sign (i + 1) Sign.left-paren) (run_of d i)
+      (pick (is_sign (i + 1) Sign.left_bracket) (store_of d i)
+      (pick (is_sign (i + 1) Sign.left_paren) (run_of d i)
       (bad (i + 1))))
 
   -- "return" [ expr ] ";"
@@ -279,15 +279,15 @@ module _ (tok : ℕ → Option Placed) where
     unfoldable pub stmts_of : ℕ → ℕ → ℕ → Out Block
     stmts_of zero d i = bad i
     stmts_of (suc n) d i =
-        pick (is_sign i Sign.right-brace) (ok Block.end i)
+        pick (is_sign i Sign.right_brace) (ok Block.end i)
         (next (stmt_of d i) (λ s j. map (Block.then s) (stmts_of n d j)))
 
   -- block = "{" { statement } "}"
   unfoldable pub block_of : ℕ → ℕ → ℕ → Out Block
   block_of zero d i = bad i
   block_of (suc h) d i =
-      expect i Sign.left-brace (opening d i
-      (next (stmts_of (block_of h) many (d + 1) (i + 1)) (λ b j. expect j Sign.right-brace (ok b (j + 1)))))
+      expect i Sign.left_brace (opening d i
+      (next (stmts_of (block_of h) many (d + 1) (i + 1)) (λ b j. expect j Sign.right_brace (ok b (j + 1)))))
 
   -- Arrays and functions.
 
@@ -305,7 +305,7 @@ module _ (tok : ℕ → Option Placed) where
 
   -- [ param { "," param } ]
   unfoldable pub params_of : ℕ → Out (List Param)
-  params_of i = pick (is_sign i Sign.right-paren) (ok [] i) (param_list_of many i)
+  params_of i = pick (is_sign i Sign.right_paren) (ok [] i) (param_list_of many i)
 
   -- [ ":" type ]
   unfoldable pub result_of : ℕ → Out (Option Ty)
@@ -314,8 +314,8 @@ module _ (tok : ℕ → Option Placed) where
   -- "[" number "]" ";"
   unfoldable pub size_of : ℕ → Out ℕ
   size_of i =
-      expect i Sign.left-bracket
-      (pick (is_number (i + 1)) (expect (i + 2) Sign.right-bracket (expect (i + 3) Sign.semicolon (ok (number_at (i + 1)) (i + 4))))
+      expect i Sign.left_bracket
+      (pick (is_number (i + 1)) (expect (i + 2) Sign.right_bracket (expect (i + 3) Sign.semicolon (ok (number_at (i + 1)) (i + 4))))
       (bad (i + 1)))
 
   -- array = "var" name ":" "int" "[" number "]" ";"
@@ -334,8 +334,8 @@ module _ (tok : ℕ → Option Placed) where
   unfoldable pub function_of : ℕ → Out Item
   function_of i =
       pick (is_name (i + 1))
-      (expect (i + 2) Sign.left-paren
-      (next (params_of (i + 3)) (λ xs j. expect j Sign.right-paren (body_of (place_of (i + 1)) (name_at (i + 1)) xs (j + 1)))))
+      (expect (i + 2) Sign.left_paren
+      (next (params_of (i + 3)) (λ xs j. expect j Sign.right_paren (body_of (place_of (i + 1)) (name_at (i + 1)) xs (j + 1)))))
       (bad (i + 1))
 
   unfoldable pub item_of : ℕ → Out Item

@@ -35,16 +35,16 @@ op s l o = record { spelt = s; level = l; means = o }
 unfoldable pub operators : List Operator
 operators =
     -- expr = conj { "||" conj }
-    op Sign.double-bar 1 Binary.or
+    op Sign.double_bar 1 Binary.or
     -- conj = comp { "&&" comp }
-    ∷ op Sign.double-ampersand 2 Binary.and
+    ∷ op Sign.double_ampersand 2 Binary.and
     -- comp = sum [ ( "==" | "!=" | "<" | "<=" | ">" | ">=" ) sum ]
-    ∷ op Sign.double-equals 3 (Binary.strict Strict.eq)
-    ∷ op Sign.bang-equals 3 (Binary.strict Strict.ne)
+    ∷ op Sign.double_equals 3 (Binary.strict Strict.eq)
+    ∷ op Sign.bang_equals 3 (Binary.strict Strict.ne)
     ∷ op Sign.less 3 (Binary.strict Strict.lt)
-    ∷ op Sign.less-equals 3 (Binary.strict Strict.le)
+    ∷ op Sign.less_equals 3 (Binary.strict Strict.le)
     ∷ op Sign.greater 3 (Binary.strict Strict.gt)
-    ∷ op Sign.greater-equals 3 (Binary.strict Strict.ge)
+    ∷ op Sign.greater_equals 3 (Binary.strict Strict.ge)
     -- sum = term { ( "+" | "-" ) term }
     ∷ op Sign.plus 4 (Binary.strict Strict.add)
     ∷ op Sign.minus 4 (Binary.strict Strict.sub)
@@ -84,10 +84,10 @@ module _ (tok : ℕ → Option Placed) where
       true : {d i j : ℕ} → HasWord i Word.true → j ≡ i + 1 → IsExpr unary_level d i j (Expr.truth Bool.true)
       false : {d i j : ℕ} → HasWord i Word.false → j ≡ i + 1 → IsExpr unary_level d i j (Expr.truth Bool.false)
       name : {d i j : ℕ} {p : Place} {x : Name} → At i (Token.name x) p → j ≡ i + 1 → IsExpr unary_level d i j (Expr.name p x)
-      element : {d i j k : ℕ} {p : Place} {x : Name} {e : Expr} → At i (Token.name x) p → HasSign (i + 1) Sign.left-bracket → d < most_open → IsExpr expr_level (d + 1) (i + 2) j e → HasSign j Sign.right-bracket → k ≡ j + 1 → IsExpr unary_level d i k (Expr.element p x e)
+      element : {d i j k : ℕ} {p : Place} {x : Name} {e : Expr} → At i (Token.name x) p → HasSign (i + 1) Sign.left_bracket → d < most_open → IsExpr expr_level (d + 1) (i + 2) j e → HasSign j Sign.right_bracket → k ≡ j + 1 → IsExpr unary_level d i k (Expr.element p x e)
       --         | name "(" [ expr { "," expr } ] ")" | "(" expr ")"
-      call : {d i j k : ℕ} {p : Place} {x : Name} {es : Args} → At i (Token.name x) p → HasSign (i + 1) Sign.left-paren → d < most_open → IsArgs (d + 1) (i + 2) j es → HasSign j Sign.right-paren → k ≡ j + 1 → IsExpr unary_level d i k (Expr.call p x es)
-      parens : {d i j k : ℕ} {e : Expr} → HasSign i Sign.left-paren → d < most_open → IsExpr expr_level (d + 1) (i + 1) j e → HasSign j Sign.right-paren → k ≡ j + 1 → IsExpr unary_level d i k e
+      call : {d i j k : ℕ} {p : Place} {x : Name} {es : Args} → At i (Token.name x) p → HasSign (i + 1) Sign.left_paren → d < most_open → IsArgs (d + 1) (i + 2) j es → HasSign j Sign.right_paren → k ≡ j + 1 → IsExpr unary_level d i k (Expr.call p x es)
+      parens : {d i j k : ℕ} {e : Expr} → HasSign i Sign.left_paren → d < most_open → IsExpr expr_level (d + 1) (i + 1) j e → HasSign j Sign.right_paren → k ≡ j + 1 → IsExpr unary_level d i k e
 
     -- after the operand a, { operator operand }: "Operators of one level group to the left." On comp's level [ operator operand ].
     pub data IsRest : ℕ → ℕ → ℕ → ℕ → Expr → Expr → Type 0 where
@@ -116,7 +116,7 @@ module _ (tok : ℕ → Option Placed) where
       declare : {d i j k : ℕ} {p : Place} {x : Name} {t : Ty} {e : Expr} → HasWord i Word.«let» → At (i + 1) (Token.name x) p → HasSign (i + 2) Sign.colon → IsType (i + 3) t → HasSign (i + 4) Sign.equals → IsExpr expr_level d (i + 5) j e → HasSign j Sign.semicolon → k ≡ j + 1 → IsStmt d i k (Stmt.declare p x t e)
       -- | name "=" expr ";"           | name "[" expr "]" "=" expr ";"
       assign : {d i j k : ℕ} {p : Place} {x : Name} {e : Expr} → At i (Token.name x) p → HasSign (i + 1) Sign.equals → IsExpr expr_level d (i + 2) j e → HasSign j Sign.semicolon → k ≡ j + 1 → IsStmt d i k (Stmt.assign p x e)
-      store : {d i j k l : ℕ} {p : Place} {x : Name} {a e : Expr} → At i (Token.name x) p → HasSign (i + 1) Sign.left-bracket → d < most_open → IsExpr expr_level (d + 1) (i + 2) j a → HasSign j Sign.right-bracket → HasSign (j + 1) Sign.equals → IsExpr expr_level d (j + 2) k e → HasSign k Sign.semicolon → l ≡ k + 1 → IsStmt d i l (Stmt.store p x a e)
+      store : {d i j k l : ℕ} {p : Place} {x : Name} {a e : Expr} → At i (Token.name x) p → HasSign (i + 1) Sign.left_bracket → d < most_open → IsExpr expr_level (d + 1) (i + 2) j a → HasSign j Sign.right_bracket → HasSign (j + 1) Sign.equals → IsExpr expr_level d (j + 2) k e → HasSign k Sign.semicolon → l ≡ k + 1 → IsStmt d i l (Stmt.store p x a e)
       -- | "if" expr block [ "else" block ]
       when : {d i j k : ℕ} {p : Place} {e : Expr} {b : Block} → At i (Token.word Word.if) p → IsExpr expr_level d (i + 1) j e → IsBlock d j k b → IsStmt d i k (Stmt.when p e b)
       choose : {d i j k l : ℕ} {p : Place} {e : Expr} {b c : Block} → At i (Token.word Word.if) p → IsExpr expr_level d (i + 1) j e → IsBlock d j k b → HasWord k Word.else → IsBlock d (k + 1) l c → IsStmt d i l (Stmt.choose p e b c)
@@ -126,7 +126,7 @@ module _ (tok : ℕ → Option Placed) where
       give : {d i j k : ℕ} {p : Place} {e : Expr} → At i (Token.word Word.return) p → IsExpr expr_level d (i + 1) j e → HasSign j Sign.semicolon → k ≡ j + 1 → IsStmt d i k (Stmt.give p e)
       -- | "emit" expr ";"             | name "(" [ expr { "," expr } ] ")" ";"
       emit : {d i j k : ℕ} {p : Place} {e : Expr} → At i (Token.word Word.emit) p → IsExpr expr_level d (i + 1) j e → HasSign j Sign.semicolon → k ≡ j + 1 → IsStmt d i k (Stmt.emit p e)
-      run : {d i j k : ℕ} {p : Place} {x : Name} {es : Args} → At i (Token.name x) p → HasSign (i + 1) Sign.left-paren → d < most_open → IsArgs (d + 1) (i + 2) j es → HasSign j Sign.right-paren → HasSign (j + 1) Sign.semicolon → k ≡ j + 2 → IsStmt d i k (Stmt.run p x es)
+      run : {d i j k : ℕ} {p : Place} {x : Name} {es : Args} → At i (Token.name x) p → HasSign (i + 1) Sign.left_paren → d < most_open → IsArgs (d + 1) (i + 2) j es → HasSign j Sign.right_paren → HasSign (j + 1) Sign.semicolon → k ≡ j + 2 → IsStmt d i k (Stmt.run p x es)
 
     -- { statement }
     pub data IsStmts : ℕ → ℕ → ℕ → Block → Type 0 where
@@ -135,7 +135,7 @@ module _ (tok : ℕ → Option Placed) where
 
     -- block = "{" { statement } "}"
     pub data IsBlock : ℕ → ℕ → ℕ → Block → Type 0 where
-      block : {d i j k : ℕ} {b : Block} → HasSign i Sign.left-brace → d < most_open → IsStmts (d + 1) (i + 1) j b → HasSign j Sign.right-brace → k ≡ j + 1 → IsBlock d i k b
+      block : {d i j k : ℕ} {b : Block} → HasSign i Sign.left_brace → d < most_open → IsStmts (d + 1) (i + 1) j b → HasSign j Sign.right_brace → k ≡ j + 1 → IsBlock d i k b
 
   -- param = name ":" type
   pub data IsParam : ℕ → ℕ → Param → Type 0 where
@@ -158,9 +158,9 @@ module _ (tok : ℕ → Option Placed) where
 
   pub data IsItem : ℕ → ℕ → Item → Type 0 where
     -- array = "var" name ":" "int" "[" number "]" ";"
-    array : {i j n : ℕ} {p : Place} {x : Name} → HasWord i Word.var → At (i + 1) (Token.name x) p → HasSign (i + 2) Sign.colon → HasWord (i + 3) Word.int → HasSign (i + 4) Sign.left-bracket → Has (i + 5) (Token.number n) → HasSign (i + 6) Sign.right-bracket → HasSign (i + 7) Sign.semicolon → j ≡ i + 8 → IsItem i j (Item.array p x n)
+    array : {i j n : ℕ} {p : Place} {x : Name} → HasWord i Word.var → At (i + 1) (Token.name x) p → HasSign (i + 2) Sign.colon → HasWord (i + 3) Word.int → HasSign (i + 4) Sign.left_bracket → Has (i + 5) (Token.number n) → HasSign (i + 6) Sign.right_bracket → HasSign (i + 7) Sign.semicolon → j ≡ i + 8 → IsItem i j (Item.array p x n)
     -- function = "fn" name "(" [ param { "," param } ] ")" [ ":" type ] block
-    function : {i j k l : ℕ} {p : Place} {x : Name} {xs : List Param} {t : Option Ty} {b : Block} → HasWord i Word.fn → At (i + 1) (Token.name x) p → HasSign (i + 2) Sign.left-paren → IsParams (i + 3) j xs → HasSign j Sign.right-paren → IsResult (j + 1) k t → IsBlock 0 k l b → IsItem i l (Item.function p x xs t b)
+    function : {i j k l : ℕ} {p : Place} {x : Name} {xs : List Param} {t : Option Ty} {b : Block} → HasWord i Word.fn → At (i + 1) (Token.name x) p → HasSign (i + 2) Sign.left_paren → IsParams (i + 3) j xs → HasSign j Sign.right_paren → IsResult (j + 1) k t → IsBlock 0 k l b → IsItem i l (Item.function p x xs t b)
 
   -- program = { array | function }
   pub data IsItems : ℕ → ℕ → List Item → Type 0 where
@@ -187,7 +187,7 @@ pub record Parses (text : List ℕ) (items : List Item) : Type 0 where
 
 text : List Placed
 text =
-    placed (Token.word Word.fn) 0 ∷ placed (Token.name (bytes "main")) 3 ∷ placed (Token.sign Sign.left-paren) 7 ∷ placed (Token.sign Sign.right-paren) 8 ∷ placed (Token.sign Sign.left-brace) 10 ∷ placed (Token.word Word.emit) 12 ∷ placed (Token.number 7) 17 ∷ placed (Token.sign Sign.minus) 19 ∷ placed (Token.number 2) 21 ∷ placed (Token.sign Sign.minus) 23 ∷ placed (Token.number 1) 25 ∷ placed (Token.sign Sign.semicolon) 26 ∷ placed (Token.sign Sign.right-brace) 28 ∷ []
+    placed (Token.word Word.fn) 0 ∷ placed (Token.name (bytes "main")) 3 ∷ placed (Token.sign Sign.left_paren) 7 ∷ placed (Token.sign Sign.right_paren) 8 ∷ placed (Token.sign Sign.left_brace) 10 ∷ placed (Token.word Word.emit) 12 ∷ placed (Token.number 7) 17 ∷ placed (Token.sign Sign.minus) 19 ∷ placed (Token.number 2) 21 ∷ placed (Token.sign Sign.minus) 23 ∷ placed (Token.number 1) 25 ∷ placed (Token.sign Sign.semicolon) 26 ∷ placed (Token.sign Sign.right_brace) 28 ∷ []
 
 text_reads : reads "fn main() { emit 7 - 2 - 1; }" ≡ Answer.good text
 unfolding text reads

@@ -29,9 +29,9 @@ pub data Word : Type 0 where
 
 -- "Signs: `== != <= >= && || + - * / % < > = ! ( ) { } [ ] : ; ,`", named by their shapes
 pub data Sign : Type 0 where
-  double-equals bang-equals less-equals greater-equals double-ampersand double-bar : Sign
+  double_equals bang_equals less_equals greater_equals double_ampersand double_bar : Sign
   plus minus star slash percent less greater equals bang : Sign
-  left-paren right-paren left-brace right-brace left-bracket right-bracket colon semicolon comma : Sign
+  left_paren right_paren left_brace right_brace left_bracket right_bracket colon semicolon comma : Sign
 
 pub data Token : Type 0 where
   name : Name → Token
@@ -61,7 +61,7 @@ words =
 -- in the document's order: signs of two bytes stand before those of one
 unfoldable pub signs : List (Sign × String)
 signs =
-    (double-equals, "==") ∷ (bang-equals, "!=") ∷ (less-equals, "<=") ∷ (greater-equals, ">=") ∷ (double-ampersand, "&&") ∷ (double-bar, "||") ∷ (plus, "+") ∷ (minus, "-") ∷ (star, "*") ∷ (slash, "/") ∷ (percent, "%") ∷ (less, "<") ∷ (greater, ">") ∷ (equals, "=") ∷ (bang, "!") ∷ (left-paren, "(") ∷ (right-paren, ")") ∷ (left-brace, "{") ∷ (right-brace, "}") ∷ (left-bracket, "[") ∷ (right-bracket, "]") ∷ (colon, ":") ∷ (semicolon, ";") ∷ (comma, ",") ∷ []
+    (double_equals, "==") ∷ (bang_equals, "!=") ∷ (less_equals, "<=") ∷ (greater_equals, ">=") ∷ (double_ampersand, "&&") ∷ (double_bar, "||") ∷ (plus, "+") ∷ (minus, "-") ∷ (star, "*") ∷ (slash, "/") ∷ (percent, "%") ∷ (less, "<") ∷ (greater, ">") ∷ (equals, "=") ∷ (bang, "!") ∷ (left_paren, "(") ∷ (right_paren, ")") ∷ (left_brace, "{") ∷ (right_brace, "}") ∷ (left_bracket, "[") ∷ (right_bracket, "]") ∷ (colon, ":") ∷ (semicolon, ";") ∷ (comma, ",") ∷ []
 
 -- a is a row of the table
 pub data In {A : Type 0} (a : A) : List A → Type 0 where
@@ -232,7 +232,7 @@ unfolding tokens_of read_from also and_then token_at as_sign number_at name_at o
 reads s = tokens_of (bytes s)
 
 examples :
-    (reads "a<=b" ≡ good (placed (Token.name (bytes "a")) 0 ∷ placed (Token.sign less-equals) 1 ∷ placed (Token.name (bytes "b")) 3 ∷ []))
+    (reads "a<=b" ≡ good (placed (Token.name (bytes "a")) 0 ∷ placed (Token.sign less_equals) 1 ∷ placed (Token.name (bytes "b")) 3 ∷ []))
     × (reads "iff if" ≡ good (placed (Token.name (bytes "iff")) 0 ∷ placed (Token.word if) 4 ∷ []))
     × (reads "1 # 2\n3" ≡ good (placed (Token.number 1) 0 ∷ placed (Token.number 3) 6 ∷ []))
     × (reads "2147483647" ≡ good (placed (Token.number 2147483647) 0 ∷ []))

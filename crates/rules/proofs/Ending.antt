@@ -21,8 +21,8 @@ use Rattle.rules.proofs.Nesting.{Located, located, too_few}
 
 -- Statements, by their kind
 
-unfoldable return_of_lem : ℕ → Bool → Bool
-return_of_lem k b = pick (eqb k 4) true (pick (eqb k 5) true (pick (eqb k 2) b false))
+unfoldable return_of : ℕ → Bool → Bool
+return_of k b = pick (eqb k 4) true (pick (eqb k 5) true (pick (eqb k 2) b false))
 
 abbrev blocks_end : T.Stmt → Bool
 blocks_end (T.declare p x t e) = false
@@ -36,8 +36,8 @@ blocks_end (T.give p e) = false
 blocks_end (T.emit p e) = false
 blocks_end (T.run p x xs) = false
 
-return_of_lem : (s : T.Stmt) (more : List ℕ) → is_return s ≡ return_of_lem (word (G.stmt_words s more) 0) (blocks_end s)
-unfolding is_return return_of_lem G.stmt_words G.declare_kind
+return_of_lem : (s : T.Stmt) (more : List ℕ) → is_return s ≡ return_of (word (G.stmt_words s more) 0) (blocks_end s)
+unfolding is_return return_of G.stmt_words G.declare_kind
 return_of_lem (T.declare p x Ty.int e) more = refl
 return_of_lem (T.declare p x Ty.bool e) more = refl
 return_of_lem (T.assign p x e) more = refl
@@ -51,19 +51,19 @@ return_of_lem (T.emit p e) more = refl
 return_of_lem (T.run p x xs) more = refl
 
 module _ (tree : List ℕ) (p : ℕ) {k at size n m s t rest : ℕ} (hd : Heads (drop p tree) k at size n m s t rest) where
-  by_kind : (st : T.Stmt) (more : List ℕ) → drop p tree ≡ G.stmt_words st more → is_return st ≡ return_of_lem k (blocks_end st)
-  by_kind st more ew = return_of_lem st more ∙ ap (λ (i : ℕ). return_of_lem i (blocks_end st)) (sym (hd.is_kind ∙ ap (λ (w : List ℕ). word w 0) ew))
+  by_kind : (st : T.Stmt) (more : List ℕ) → drop p tree ≡ G.stmt_words st more → is_return st ≡ return_of k (blocks_end st)
+  by_kind st more ew = return_of_lem st more ∙ ap (λ (i : ℕ). return_of i (blocks_end st)) (sym (hd.is_kind ∙ ap (λ (w : List ℕ). word w 0) ew))
 
-  of_leave : (b : Bool) → k ≡ 4 → true ≡ return_of_lem k b
-  unfolding return_of_lem
+  of_leave : (b : Bool) → k ≡ 4 → true ≡ return_of k b
+  unfolding return_of
   of_leave b e = rw e refl
 
-  of_give : (b : Bool) → k ≡ 5 → true ≡ return_of_lem k b
-  unfolding return_of_lem
+  of_give : (b : Bool) → k ≡ 5 → true ≡ return_of k b
+  unfolding return_of
   of_give b e = rw e refl
 
-  of_other : (b : Bool) → (k ≡ 4 → ⊥) → (k ≡ 5 → ⊥) → (k ≡ 2 → ⊥) → false ≡ return_of_lem k b
-  unfolding return_of_lem
+  of_other : (b : Bool) → (k ≡ 4 → ⊥) → (k ≡ 5 → ⊥) → (k ≡ 2 → ⊥) → false ≡ return_of k b
+  unfolding return_of
   of_other b d e f = rw (ne_eqb k 4 d, ne_eqb k 5 e, ne_eqb k 2 f) refl
 
   pub leaves_so : k ≡ 4 → Returns (drop p tree) true

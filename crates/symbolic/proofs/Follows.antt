@@ -38,8 +38,8 @@ pub record Loads (code : List Instruction) (arrays : List ℕ) : Type 0 where
 
 module _ (room : ℕ) (code : List Instruction) (arrays : List ℕ) (L : Loads code arrays) where
   -- document 03's run of the image, and the symbolic processor after n steps
-  abbrev pub real-run : ℕ → Run
-  real-run limit = run_image (image_of code) (bytes_of_words arrays) room limit
+  abbrev pub real_run : ℕ → Run
+  real_run limit = run_image (image_of code) (bytes_of_words arrays) room limit
 
   abbrev pub after : ℕ → State
   after n = run room code n (initial arrays)
@@ -52,7 +52,7 @@ module _ (room : ℕ) (code : List Instruction) (arrays : List ℕ) (L : Loads c
     pub counts : r.steps ≡ steps
 
   -- Under the limit n: the symbolic state after n steps.
-  pub follows : (n : ℕ) → NoFault (after n).status → Seen (shown (after n).status) (after n) (count room code n (initial arrays)) (real-run n)
+  pub follows : (n : ℕ) → NoFault (after n).status → Seen (shown (after n).status) (after n) (count room code n (initial arrays)) (real_run n)
   unfolding run_image start_of
   follows n safe = rw (image_length code) (seen (run_lock room code L.short L.fine n (initial arrays) (start_of (image_of code) (bytes_of_words arrays)) 0 refl (starts code arrays L.short L.few L.words) safe))
     where
@@ -65,7 +65,7 @@ module _ (room : ℕ) (code : List Instruction) (arrays : List ℕ) (L : Loads c
       }
 
   -- Where it stopped within n steps: that stop under every limit from n on, after at most n steps.
-  pub follows_stop : (n limit : ℕ) → n ≤ limit → NoFault (after n).status → Stopped (after n).status → Seen (after n).status (after n) (count room code n (initial arrays)) (real-run limit)
+  pub follows_stop : (n limit : ℕ) → n ≤ limit → NoFault (after n).status → Stopped (after n).status → Seen (after n).status (after n) (count room code n (initial arrays)) (real_run limit)
   follows_stop n limit h safe stop =
       let e : after limit ≡ after n = later room code n limit (initial arrays) h stop in
       let s = follows limit (subst (λ (τ : State). NoFault τ.status) (sym e) safe) in
@@ -78,5 +78,5 @@ module _ (room : ℕ) (code : List Instruction) (arrays : List ℕ) (L : Loads c
       }
 
   -- The real machine doesn't fault where the symbolic one doesn't.
-  pub never_faults : (n : ℕ) → NoFault (after n).status → (f : ℕ) → (real-run n).machine.status ≡ Fault f → ⊥
+  pub never_faults : (n : ℕ) → NoFault (after n).status → (f : ℕ) → (real_run n).machine.status ≡ Fault f → ⊥
   never_faults n safe f e = shown_no_fault (after n).status f safe (sym (follows n safe).stops ∙ e)

@@ -25,7 +25,7 @@ use Rattle.symbolic.specs.Real.{distance, real}
 use Rattle.symbolic.specs.Fine.{Valid, Fine, most_instructions}
 use Rattle.symbolic.proofs.Operations.{alu_lt}
 use Rattle.symbolic.proofs.Distances.{reachable, arrives, returns}
-use Rattle.symbolic.proofs.Match.{Match, Alike, quits, goes, jumps, writes, next-pc, puts-too, stores-too, logs-too}
+use Rattle.symbolic.proofs.Match.{Match, Alike, quits, goes, jumps, writes, next_pc, puts_too, stores_too, logs_too}
 
 -- no fault
 abbrev pub NoFault : Status → Type 0
@@ -52,39 +52,39 @@ module _ (room : ℕ) {code : List Instruction} (short : length code ≤ most_in
   target t h = ap (λ (p : ℕ). add_w p (distance σ.pc t)) c.pc ∙ arrives σ.pc t (omega arith) h
 
   upper : (r : Reg) (n : ℕ) → Valid r → n < 2 ^ 32 → Alike code (puts r n σ) (wrote m (number r) n (next m))
-  upper r n ok h = puts-too c here r n ok refl h
+  upper r n ok h = puts_too c here r n ok refl h
 
   one_operand : (o : Alu) (r q : Reg) (n : ℕ) → Valid r → Valid q → n < 2 ^ 32 → Alike code (puts r (alu_of o (value σ q) n) σ) (wrote m (number r) (alu_of o (R.reg m (number q)) n) (next m))
-  one_operand o r q n okr okq h = puts-too c here r _ okr (ap (λ (a : ℕ). alu_of o a n) (reads q okq)) (alu_lt o _ _ (a_word q okq) h)
+  one_operand o r q n okr okq h = puts_too c here r _ okr (ap (λ (a : ℕ). alu_of o a n) (reads q okq)) (alu_lt o _ _ (a_word q okq) h)
 
   moved : (r q : Reg) → Valid r → Valid q → Alike code (puts r (value σ q) σ) (wrote m (number r) (alu_of Add (R.reg m (number q)) 0) (next m))
   unfolding alu_of
-  moved r q okr okq = puts-too c here r _ okr (ap (λ (a : ℕ). add_w a 0) (reads q okq) ∙ add_w_zero _ (a_word q okq)) (a_word q okq)
+  moved r q okr okq = puts_too c here r _ okr (ap (λ (a : ℕ). add_w a 0) (reads q okq) ∙ add_w_zero _ (a_word q okq)) (a_word q okq)
 
   two_operands : (o : Alu) (r p q : Reg) → Valid r → Valid p → Valid q
       → Alike code (puts r (alu_of o (value σ p) (value σ q)) σ) (wrote m (number r) (alu_of o (R.reg m (number p)) (R.reg m (number q))) (next m))
   two_operands o r p q okr okp okq =
-      puts-too c here r _ okr (ap (λ (a : ℕ). alu_of o a (R.reg m (number q))) (reads p okp) ∙ ap (λ (b : ℕ). alu_of o (value σ p) b) (reads q okq)) (alu_lt o _ _ (a_word p okp) (a_word q okq))
+      puts_too c here r _ okr (ap (λ (a : ℕ). alu_of o a (R.reg m (number q))) (reads p okp) ∙ ap (λ (b : ℕ). alu_of o (value σ p) b) (reads q okq)) (alu_lt o _ _ (a_word p okp) (a_word q okq))
 
   loads : (r : Reg) (a : ℕ) → Valid r → (t : Bool) → reaches Word a ≡ t → NoFault (pick t (puts r (σ.memory a) σ) (quit (Fault 3) σ)).status
       → Alike code (pick t (puts r (σ.memory a) σ) (quit (Fault 3) σ)) (pick t (wrote m (number r) (R.word_at m.memory a) (next m)) (halt m (Fault 3)))
-  loads r a ok true e safe = puts-too c here r _ ok (c.memory.reads a e) (c.memory.words a e)
+  loads r a ok true e safe = puts_too c here r _ ok (c.memory.reads a e) (c.memory.words a e)
   loads r a ok false e safe = absurd safe
 
   saves : (a v : ℕ) → v < 2 ^ 32 → (t : Bool) → reaches Word a ≡ t → NoFault (pick t (stores a v σ) (quit (Fault 3) σ)).status
       → Alike code (pick t (stores a v σ) (quit (Fault 3) σ)) (pick t (stored m (write_at Word m.memory a v) (next m)) (halt m (Fault 3)))
-  saves a v h true e safe = stores-too c here a v short e h
+  saves a v h true e safe = stores_too c here a v short e h
   saves a v h false e safe = absurd safe
 
   branches : (b : Bool) (t : ℕ) → t < reachable → Alike code (goto (pick b t (suc σ.pc)) σ) (E.goto m (pick b (add_w m.pc (distance σ.pc t)) (next m)))
   branches true t h = goes c (target t h)
-  branches false t h = goes c (next-pc c here)
+  branches false t h = goes c (next_pc c here)
 
   goes_to : (t : ℕ) → t < reachable → Alike code (goto t σ) (wrote m 0 (next m) (add_w m.pc (distance σ.pc t)))
   goes_to t h = jumps c (next m) (target t h)
 
   calls : (t : ℕ) → t < reachable → Alike code (exec1 room (call t) σ) (wrote m (number ra) (next m) (add_w m.pc (distance σ.pc t)))
-  calls t h = writes c ra (pos (suc σ.pc)) (omega arith) (next-pc c here) (omega arith) (target t h)
+  calls t h = writes c ra (pos (suc σ.pc)) (omega arith) (next_pc c here) (omega arith) (target t h)
 
   comes_back : (a : ℕ) → a < 2 ^ 32 → (t : Bool) → eqb (pos (position_of a)) a ≡ t → NoFault (pick t (goto (position_of a) σ) (quit (Fault 1) σ)).status
       → Alike code (pick t (goto (position_of a) σ) (quit (Fault 1) σ)) (wrote m 0 (next m) (add_w a 0 / 2 * 2))
@@ -102,7 +102,7 @@ module _ (room : ℕ) {code : List Instruction} (short : length code ≤ most_in
           → Alike code (pick x (quit Exit σ) (pick y (pick w (logs (value σ answer) σ) (quit (Trap 4) σ)) (pick z (quit (Trap (value σ answer)) σ) (quit (Fault 5) σ))))
           (pick x (halt m Exit) (pick y (pick w (logged m (value σ answer) (next m)) (halt m (Trap 4))) (pick z (halt m (Trap (value σ answer))) (halt m (Fault 5)))))
       go true y z w safe = quits c Exit
-      go false true z true safe = logs-too c here (value σ answer)
+      go false true z true safe = logs_too c here (value σ answer)
       go false true z false safe = quits c (Trap 4)
       go false false true w safe = quits c (Trap (value σ answer))
       go false false false w safe = absurd safe

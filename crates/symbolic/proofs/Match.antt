@@ -64,21 +64,21 @@ module _ {code : List Instruction} {σ : State} {m : Machine} (c : Match code σ
 
   module _ (here : σ.pc < most_instructions) where
     -- the address of the instruction behind this one
-    pub next-pc : next m ≡ pos (suc σ.pc)
-    next-pc = ap (λ (p : ℕ). add_w p 4) c.pc ∙ next_is σ.pc (omega arith)
+    pub next_pc : next m ≡ pos (suc σ.pc)
+    next_pc = ap (λ (p : ℕ). add_w p 4) c.pc ∙ next_is σ.pc (omega arith)
 
     -- gone on behind this instruction: with a register written, a word stored, a value logged
-    pub puts-too : {v : ℕ} (r : Reg) (w : ℕ) → Valid r → v ≡ w → w < 2 ^ 32 → Alike code (puts r w σ) (wrote m (number r) v (next m))
-    puts-too r w ok e h = writes r w ok e h next-pc
+    pub puts_too : {v : ℕ} (r : Reg) (w : ℕ) → Valid r → v ≡ w → w < 2 ^ 32 → Alike code (puts r w σ) (wrote m (number r) v (next m))
+    puts_too r w ok e h = writes r w ok e h next_pc
 
-    pub stores-too : (a v : ℕ) → length code ≤ most_instructions → reaches Word a ≡ true → v < 2 ^ 32 → Alike code (stores a v σ) (R.stored m (write_at Word m.memory a v) (next m))
-    stores-too a v short h k = record {
+    pub stores_too : (a v : ℕ) → length code ≤ most_instructions → reaches Word a ≡ true → v < 2 ^ 32 → Alike code (stores a v σ) (R.stored m (write_at Word m.memory a v) (next m))
+    stores_too a v short h k = record {
       status = refl;
-      match = record { pc = next-pc; registers = c.registers; memory = stored a v short c.memory h k; log = c.log };
+      match = record { pc = next_pc; registers = c.registers; memory = stored a v short c.memory h k; log = c.log };
     }
 
-    pub logs-too : (v : ℕ) → Alike code (logs v σ) (logged m v (next m))
-    logs-too v = record {
+    pub logs_too : (v : ℕ) → Alike code (logs v σ) (logged m v (next m))
+    logs_too v = record {
       status = refl;
-      match = record { pc = next-pc; registers = c.registers; memory = c.memory; log = ap (λ (l : List ℕ). l ++ (v ∷ [])) c.log };
+      match = record { pc = next_pc; registers = c.registers; memory = c.memory; log = ap (λ (l : List ℕ). l ++ (v ∷ [])) c.log };
     }

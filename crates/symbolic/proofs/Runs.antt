@@ -13,7 +13,7 @@ use Rattle.processor.specs.declared.Width.TheVariants.{Word}
 use Rattle.processor.specs.declared.Status.{Status}
 use Rattle.processor.specs.declared.Status.TheVariants.{Going, Exit, Trap, Fault, Limit}
 use Rattle.processor.specs.Execute.{reaches}
-use Rattle.symbolic.specs.Symbolic.{Instruction, lui, opi, shift, mv, op, lw, sw, branch, branch_back, jump, jump_back, call, ret, ecall, bad, State, value, ra, request, answer, pos, position_of, ecall_of, exec1, step_by, step, run, count_by_lem, count}
+use Rattle.symbolic.specs.Symbolic.{Instruction, lui, opi, shift, mv, op, lw, sw, branch, branch_back, jump, jump_back, call, ret, ecall, bad, State, value, ra, request, answer, pos, position_of, ecall_of, exec1, step_by, step, run, count_by, count}
 
 -- a state that doesn't go on
 abbrev pub Stopped : Status → Type 0
@@ -100,7 +100,7 @@ module _ (room : ℕ) (code : List Instruction) where
   log_grows (suc n) σ = begins_trans σ.log (step_log σ.status σ) (log_grows n (step_by room σ.status code σ))
 
   -- steps are counted up to a stop: at most n of n, and n where the machine still goes on
-  count_by_lem : (s : Status) (n k : ℕ) → k ≤ n → count_by_lem room s k ≤ suc n
+  count_by_lem : (s : Status) (n k : ℕ) → k ≤ n → count_by room s k ≤ suc n
   count_by_lem Going n k h = omega arith
   count_by_lem Exit n k h = omega arith
   count_by_lem (Trap t) n k h = omega arith
@@ -113,7 +113,7 @@ module _ (room : ℕ) (code : List Instruction) where
   count_most (suc n) σ = count_by_lem (step room code σ).status n (count room code n (step room code σ)) (count_most n (step room code σ))
 
   -- and none after it
-  count_same : (s : Status) (a b : ℕ) → (s ≡ Going → a ≡ b) → count_by_lem room s a ≡ count_by_lem room s b
+  count_same : (s : Status) (a b : ℕ) → (s ≡ Going → a ≡ b) → count_by room s a ≡ count_by room s b
   count_same Going a b h = ap suc (h refl)
   count_same Exit a b h = refl
   count_same (Trap t) a b h = refl

@@ -11,7 +11,7 @@ use Rattle.tokens.specs.Kinds.{sign_kind, word_kind, kind_of}
 -- the kinds from 3 on, in their order
 unfoldable pub atoms : List Token
 atoms =
-    Token.sign Sign.double-equals ∷ Token.sign Sign.bang-equals ∷ Token.sign Sign.less-equals ∷ Token.sign Sign.greater-equals ∷ Token.sign Sign.double-ampersand ∷ Token.sign Sign.double-bar ∷ Token.sign Sign.plus ∷ Token.sign Sign.minus ∷ Token.sign Sign.star ∷ Token.sign Sign.slash ∷ Token.sign Sign.percent ∷ Token.sign Sign.less ∷ Token.sign Sign.greater ∷ Token.sign Sign.equals ∷ Token.sign Sign.bang ∷ Token.sign Sign.left-paren ∷ Token.sign Sign.right-paren ∷ Token.sign Sign.left-brace ∷ Token.sign Sign.right-brace ∷ Token.sign Sign.left-bracket ∷ Token.sign Sign.right-bracket ∷ Token.sign Sign.colon ∷ Token.sign Sign.semicolon ∷ Token.sign Sign.comma ∷ Token.word Word.var ∷ Token.word Word.fn ∷ Token.word Word.«let» ∷ Token.word Word.if ∷ Token.word Word.else ∷ Token.word Word.while ∷ Token.word Word.return ∷ Token.word Word.emit ∷ Token.word Word.int ∷ Token.word Word.bool ∷ Token.word Word.true ∷ Token.word Word.false ∷ []
+    Token.sign Sign.double_equals ∷ Token.sign Sign.bang_equals ∷ Token.sign Sign.less_equals ∷ Token.sign Sign.greater_equals ∷ Token.sign Sign.double_ampersand ∷ Token.sign Sign.double_bar ∷ Token.sign Sign.plus ∷ Token.sign Sign.minus ∷ Token.sign Sign.star ∷ Token.sign Sign.slash ∷ Token.sign Sign.percent ∷ Token.sign Sign.less ∷ Token.sign Sign.greater ∷ Token.sign Sign.equals ∷ Token.sign Sign.bang ∷ Token.sign Sign.left_paren ∷ Token.sign Sign.right_paren ∷ Token.sign Sign.left_brace ∷ Token.sign Sign.right_brace ∷ Token.sign Sign.left_bracket ∷ Token.sign Sign.right_bracket ∷ Token.sign Sign.colon ∷ Token.sign Sign.semicolon ∷ Token.sign Sign.comma ∷ Token.word Word.var ∷ Token.word Word.fn ∷ Token.word Word.«let» ∷ Token.word Word.if ∷ Token.word Word.else ∷ Token.word Word.while ∷ Token.word Word.return ∷ Token.word Word.emit ∷ Token.word Word.int ∷ Token.word Word.bool ∷ Token.word Word.true ∷ Token.word Word.false ∷ []
 
 nth : List Token → ℕ → Option Token
 nth [] k = none
@@ -28,12 +28,12 @@ token_of (suc (suc (suc k))) x n = nth atoms k
 
 sign_back : (s : Sign) (x : Name) (n : ℕ) → token_of (sign_kind s) x n ≡ some (Token.sign s)
 unfolding token_of atoms sign_kind
-sign_back Sign.double-equals x n = refl
-sign_back Sign.bang-equals x n = refl
-sign_back Sign.less-equals x n = refl
-sign_back Sign.greater-equals x n = refl
-sign_back Sign.double-ampersand x n = refl
-sign_back Sign.double-bar x n = refl
+sign_back Sign.double_equals x n = refl
+sign_back Sign.bang_equals x n = refl
+sign_back Sign.less_equals x n = refl
+sign_back Sign.greater_equals x n = refl
+sign_back Sign.double_ampersand x n = refl
+sign_back Sign.double_bar x n = refl
 sign_back Sign.plus x n = refl
 sign_back Sign.minus x n = refl
 sign_back Sign.star x n = refl
@@ -43,12 +43,12 @@ sign_back Sign.less x n = refl
 sign_back Sign.greater x n = refl
 sign_back Sign.equals x n = refl
 sign_back Sign.bang x n = refl
-sign_back Sign.left-paren x n = refl
-sign_back Sign.right-paren x n = refl
-sign_back Sign.left-brace x n = refl
-sign_back Sign.right-brace x n = refl
-sign_back Sign.left-bracket x n = refl
-sign_back Sign.right-bracket x n = refl
+sign_back Sign.left_paren x n = refl
+sign_back Sign.right_paren x n = refl
+sign_back Sign.left_brace x n = refl
+sign_back Sign.right_brace x n = refl
+sign_back Sign.left_bracket x n = refl
+sign_back Sign.right_bracket x n = refl
 sign_back Sign.colon x n = refl
 sign_back Sign.semicolon x n = refl
 sign_back Sign.comma x n = refl

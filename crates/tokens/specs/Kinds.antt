@@ -3,12 +3,12 @@ use Rattle.std.specs.Prelude.{List, [], ◌∷◌, ℕ, ◌*◌, length}
 use Rattle.language.specs.Tokens.{Word, Sign, Token, Placed, longest_text}
 
 unfoldable pub sign_kind : Sign → ℕ
-sign_kind Sign.double-equals = 3
-sign_kind Sign.bang-equals = 4
-sign_kind Sign.less-equals = 5
-sign_kind Sign.greater-equals = 6
-sign_kind Sign.double-ampersand = 7
-sign_kind Sign.double-bar = 8
+sign_kind Sign.double_equals = 3
+sign_kind Sign.bang_equals = 4
+sign_kind Sign.less_equals = 5
+sign_kind Sign.greater_equals = 6
+sign_kind Sign.double_ampersand = 7
+sign_kind Sign.double_bar = 8
 sign_kind Sign.plus = 9
 sign_kind Sign.minus = 10
 sign_kind Sign.star = 11
@@ -18,12 +18,12 @@ sign_kind Sign.less = 14
 sign_kind Sign.greater = 15
 sign_kind Sign.equals = 16
 sign_kind Sign.bang = 17
-sign_kind Sign.left-paren = 18
-sign_kind Sign.right-paren = 19
-sign_kind Sign.left-brace = 20
-sign_kind Sign.right-brace = 21
-sign_kind Sign.left-bracket = 22
-sign_kind Sign.right-bracket = 23
+sign_kind Sign.left_paren = 18
+sign_kind Sign.right_paren = 19
+sign_kind Sign.left_brace = 20
+sign_kind Sign.right_brace = 21
+sign_kind Sign.left_bracket = 22
+sign_kind Sign.right_bracket = 23
 sign_kind Sign.colon = 24
 sign_kind Sign.semicolon = 25
 sign_kind Sign.comma = 26

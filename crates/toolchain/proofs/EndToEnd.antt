@@ -38,7 +38,7 @@ use Rattle.toolchain.specs.Emulation as E
 use Rattle.toolchain.specs.Interpretation.{Lent, IsBlock, Interprets}
 use Rattle.toolchain.specs.Interpretation as T
 use Rattle.toolchain.specs.Compilation.{Compiles, Makes}
-use Rattle.toolchain.specs.EndToEnd.{Compiling, made, Interpreting, Emulating, sourceLog, sourceArrays, fuelUsed, EndedAs, machineLog, machineArrays, Alike, EndToEnd}
+use Rattle.toolchain.specs.EndToEnd.{Compiling, made, Interpreting, Emulating, source_log, source_arrays, fuel_used, EndedAs, machine_log, machine_arrays, Alike, EndToEnd}
 use Rattle.toolchain.proofs.OneRun.{front}
 
 -- a text has one program at most
@@ -101,14 +101,14 @@ module _ (text input : List ℕ) (room : ℕ) (bytes : Below 256 input) (p : Pro
         subst (λ (q : Program). T.Holds (run_of q arrays fuel room) q.elements i.before i.after i.ran)
         (accepted_one text i.says.program p i.says.accepted program) i.says.holds
 
-    source_log : sourceLog i ≡ (run_of p arrays fuel room).world.log
-    source_log = front i.ran.logged i.after.log (run_of p arrays fuel room).world.log _ (sym source.logged) source.log
+    source_log_lem : source_log i ≡ (run_of p arrays fuel room).world.log
+    source_log_lem = front i.ran.logged i.after.log (run_of p arrays fuel room).world.log _ (sym source.logged) source.log
 
-    source_used : fuelUsed i ≡ used costs p (image p) arrays fuel room
+    source_used : fuel_used i ≡ used costs p (image p) arrays fuel room
     source_used = ap (λ (n : ℕ). fuel - n) source.fuel
 
-    source_arrays : length (run_of p arrays fuel room).world.arrays ≡ length arrays → sourceArrays i ≡ (run_of p arrays fuel room).world.arrays
-    source_arrays e = front (length arrays) i.after.arrays (run_of p arrays fuel room).world.arrays _ e source.arrays
+    source_arrays_lem : length (run_of p arrays fuel room).world.arrays ≡ length arrays → source_arrays i ≡ (run_of p arrays fuel room).world.arrays
+    source_arrays_lem e = front (length arrays) i.after.arrays (run_of p arrays fuel room).world.arrays _ e source.arrays
 
     source_ends : (stop : Status) → EndedAs i stop → stop_for (run_of p arrays fuel room).outcome ≡ some stop
     source_ends stop e = ap stop_for (sym source.outcome) ∙ e
@@ -122,8 +122,8 @@ module _ (text input : List ℕ) (room : ℕ) (bytes : Below 256 input) (p : Pro
     unfolding Emulates
     machined = subst (λ (bs : List ℕ). E.Holds (run_image (image p) bs room limit) m.before m.after m.ended) (sym whole) m.says.1
 
-    machine_log : machineLog m ≡ ran.machine.log
-    machine_log = front m.ended.logged m.after.log ran.machine.log _ (sym machined.logged) machined.log
+    machine_log_lem : machine_log m ≡ ran.machine.log
+    machine_log_lem = front m.ended.logged m.after.log ran.machine.log _ (sym machined.logged) machined.log
 
     -- memory is as long as document 03 has it
     memory_size : length ran.machine.memory ≡ memory_bytes
@@ -141,9 +141,9 @@ module _ (text input : List ℕ) (room : ℕ) (bytes : Below 256 input) (p : Pro
         few : p.elements ≤ 16384 → data_start + length input ≤ length ran.machine.memory
         few h = omega (arith, block, memory_size)
 
-    machine_arrays : machineArrays m ≡ arrays_of (4 * p.elements) ran.machine
+    machine_arrays_lem : machine_arrays m ≡ arrays_of (4 * p.elements) ran.machine
     unfolding arrays_of
-    machine_arrays =
+    machine_arrays_lem =
         words_part data_start (length input) (4 * p.elements) m.after.memory ran.machine.memory (drop memory_bytes m.before.memory) machined.memory inside block
 
     arrays_size : length (arrays_of (4 * p.elements) ran.machine) ≡ length arrays
@@ -155,17 +155,17 @@ module _ (text input : List ℕ) (room : ℕ) (bytes : Below 256 input) (p : Pro
       C.Alike costs p (image p) stop (run_of p arrays fuel room) (machine costs p (image p) arrays limit room) → Alike stop i m
   alike fuel limit i m stop a = record {
     stops = (machined m).status ∙ a.stops;
-    log = machine_log m ∙ (a.log ∙ sym (source_log i));
-    arrays = machine_arrays m ∙ (a.arrays ∙ sym (source_arrays i (ap length (sym a.arrays) ∙ arrays_size m)));
+    log = machine_log_lem m ∙ (a.log ∙ sym (source_log_lem i));
+    arrays = machine_arrays_lem m ∙ (a.arrays ∙ sym (source_arrays_lem i (ap length (sym a.arrays) ∙ arrays_size m)));
   }
 
   module _ (k : C.Keeps costs p (image p)) where
     ends : (fuel limit : ℕ) (i : Interpreting text input room fuel) (m : Emulating (image p) input room limit) (stop : Status) → EndedAs i stop →
-        costs.K * fuelUsed i + costs.K0 ≤ limit → Alike stop i m × (m.ended.steps ≤ costs.K * fuelUsed i + costs.K0)
+        costs.K * fuel_used i + costs.K0 ≤ limit → Alike stop i m × (m.ended.steps ≤ costs.K * fuel_used i + costs.K0)
     ends fuel limit i m stop e h =
         let r = k.ends arrays fuel room fine stop (source_ends i stop e) limit (subst (λ (n : ℕ). costs.K * n + costs.K0 ≤ limit) (source_used i) h) in (
           alike fuel limit i m stop r.0,
-          subst (λ (n : ℕ). n ≤ costs.K * fuelUsed i + costs.K0) (sym (machined m).steps)
+          subst (λ (n : ℕ). n ≤ costs.K * fuel_used i + costs.K0) (sym (machined m).steps)
               (subst (λ (n : ℕ). (machine costs p (image p) arrays limit room).steps ≤ costs.K * n + costs.K0) (sym (source_used i)) r.1),
         )
 
@@ -185,18 +185,18 @@ module _ (text input : List ℕ) (room : ℕ) (bytes : Below 256 input) (p : Pro
     never_faults : (limit : ℕ) (m : Emulating (image p) input room limit) (n : ℕ) → m.ended.status ≡ Fault n → ⊥
     never_faults limit m n e = k.never_faults arrays limit room fine n (sym (machined m).status ∙ e)
 
-    source_first : (fuel : ℕ) (i : Interpreting text input room fuel) → (limit : ℕ) × (limit ≤ costs.K * fuel + costs.K0) × ((m : Emulating (image p) input room limit) → Begins (sourceLog i) (machineLog m))
+    source_first : (fuel : ℕ) (i : Interpreting text input room fuel) → (limit : ℕ) × (limit ≤ costs.K * fuel + costs.K0) × ((m : Emulating (image p) input room limit) → Begins (source_log i) (machine_log m))
     source_first fuel i =
-        let r = (k.same-forever arrays room fine).0 fuel in
-        (r.0, r.1, λ m. (r.2.0, ap (λ (l : List ℕ). l ++ r.2.0) (source_log i) ∙ (r.2.1 ∙ sym (machine_log m))))
+        let r = (k.same_forever arrays room fine).0 fuel in
+        (r.0, r.1, λ m. (r.2.0, ap (λ (l : List ℕ). l ++ r.2.0) (source_log_lem i) ∙ (r.2.1 ∙ sym (machine_log_lem m))))
 
-    machine_first : (limit : ℕ) (m : Emulating (image p) input room limit) → (fuel : ℕ) × (fuel ≤ costs.C * limit + costs.C0) × ((i : Interpreting text input room fuel) → Begins (machineLog m) (sourceLog i))
+    machine_first : (limit : ℕ) (m : Emulating (image p) input room limit) → (fuel : ℕ) × (fuel ≤ costs.C * limit + costs.C0) × ((i : Interpreting text input room fuel) → Begins (machine_log m) (source_log i))
     machine_first limit m =
-        let r = (k.same-forever arrays room fine).1 limit in
-        (r.0, r.1, λ i. (r.2.0, ap (λ (l : List ℕ). l ++ r.2.0) (machine_log m) ∙ (r.2.1 ∙ sym (source_log i))))
+        let r = (k.same_forever arrays room fine).1 limit in
+        (r.0, r.1, λ i. (r.2.0, ap (λ (l : List ℕ). l ++ r.2.0) (machine_log_lem m) ∙ (r.2.1 ∙ sym (source_log_lem i))))
 
     all : EndToEnd text (image p) input room
-    all = record { ends = ends; goes_on = goes_on; ends_back = ends_back; never_faults = never_faults; same-forever = (source_first, machine_first) }
+    all = record { ends = ends; goes_on = goes_on; ends_back = ends_back; never_faults = never_faults; same_forever = (source_first, machine_first) }
 
 -- What `compile` made of a text, run by `emulate` on any block of one word for each element, does what `interpret` says of that text, with any room for the log.
 pub end_to_end : (text input : List ℕ) (room : ℕ) (c : Compiling text) → Below 256 input → ((p : Program) → Accepted text p → IsBlock p input) →

@@ -49,36 +49,36 @@ pub record Emulating (image input : List ℕ) (room limit : ℕ) : Type 0 where
 -- what they left: the log, and the words of the arrays; and the fuel that was used
 
 module _ {text input : List ℕ} {room fuel : ℕ} where
-  abbrev pub sourceLog : Interpreting text input room fuel → List ℕ
-  sourceLog i = take i.ran.logged i.after.log
+  abbrev pub source_log : Interpreting text input room fuel → List ℕ
+  source_log i = take i.ran.logged i.after.log
 
-  abbrev pub sourceArrays : Interpreting text input room fuel → List ℕ
-  sourceArrays i = take (length (words_of_bytes input)) i.after.arrays
+  abbrev pub source_arrays : Interpreting text input room fuel → List ℕ
+  source_arrays i = take (length (words_of_bytes input)) i.after.arrays
 
-  abbrev pub fuelUsed : Interpreting text input room fuel → ℕ
-  fuelUsed i = fuel - i.ran.fuel
+  abbrev pub fuel_used : Interpreting text input room fuel → ℕ
+  fuel_used i = fuel - i.ran.fuel
 
   -- how the source's run ended, as the machine's does: finished as exit, trap t as trap t
   abbrev pub EndedAs : Interpreting text input room fuel → Status → Type 0
   EndedAs i stop = stop_for (outcome_of i.ran.outcome) ≡ some stop
 
 module _ {image input : List ℕ} {room limit : ℕ} where
-  abbrev pub machineLog : Emulating image input room limit → List ℕ
-  machineLog m = take m.ended.logged m.after.log
+  abbrev pub machine_log : Emulating image input room limit → List ℕ
+  machine_log m = take m.ended.logged m.after.log
 
-  abbrev pub machineArrays : Emulating image input room limit → List ℕ
-  machineArrays m = words_of_bytes (take (length input) (drop data_start m.after.memory))
+  abbrev pub machine_arrays : Emulating image input room limit → List ℕ
+  machine_arrays m = words_of_bytes (take (length input) (drop data_start m.after.memory))
 
 pub record Alike {text image input : List ℕ} {room fuel limit : ℕ} (stop : Status) (i : Interpreting text input room fuel) (m : Emulating image input room limit) : Type 0 where
   pub stops : m.ended.status ≡ stop
-  pub log : machineLog m ≡ sourceLog i
-  pub arrays : machineArrays m ≡ sourceArrays i
+  pub log : machine_log m ≡ source_log i
+  pub arrays : machine_arrays m ≡ source_arrays i
 
 -- The claim, for a text, an image of it and an input block, with any room for the log.
 pub record EndToEnd (text image input : List ℕ) (room : ℕ) : Type 0 where
   -- where `interpret` finishes or traps with t, `emulate` exits or traps with t, under every limit that is large enough, in at most so many steps
   pub ends : (fuel limit : ℕ) (i : Interpreting text input room fuel) (m : Emulating image input room limit) (stop : Status) → EndedAs i stop →
-      costs.K * fuelUsed i + costs.K0 ≤ limit → Alike stop i m × (m.ended.steps ≤ costs.K * fuelUsed i + costs.K0)
+      costs.K * fuel_used i + costs.K0 ≤ limit → Alike stop i m × (m.ended.steps ≤ costs.K * fuel_used i + costs.K0)
   -- where `interpret` is out of fuel, `emulate` is at its limit with the same log and arrays, under a limit that the fuel bounds both ways
   pub goes_on : (fuel : ℕ) (i : Interpreting text input room fuel) → i.ran.outcome ≡ OutOfFuel →
       (limit : ℕ) × (fuel ≤ costs.C * limit + costs.C0) × (limit ≤ costs.K * fuel + costs.K0) ×
@@ -89,8 +89,8 @@ pub record EndToEnd (text image input : List ℕ) (room : ℕ) : Type 0 where
   -- `emulate` never says fault
   pub never_faults : (limit : ℕ) (m : Emulating image input room limit) (n : ℕ) → m.ended.status ≡ Fault n → ⊥
   -- each one's log is the beginning of the other's, with a fuel or under a limit that the other bounds
-  pub same-forever :
+  pub same_forever :
       ((fuel : ℕ) (i : Interpreting text input room fuel) →
-      (limit : ℕ) × (limit ≤ costs.K * fuel + costs.K0) × ((m : Emulating image input room limit) → Begins (sourceLog i) (machineLog m))) ×
+      (limit : ℕ) × (limit ≤ costs.K * fuel + costs.K0) × ((m : Emulating image input room limit) → Begins (source_log i) (machine_log m))) ×
       ((limit : ℕ) (m : Emulating image input room limit) →
-      (fuel : ℕ) × (fuel ≤ costs.C * limit + costs.C0) × ((i : Interpreting text input room fuel) → Begins (machineLog m) (sourceLog i)))
+      (fuel : ℕ) × (fuel ≤ costs.C * limit + costs.C0) × ((i : Interpreting text input room fuel) → Begins (machine_log m) (source_log i)))

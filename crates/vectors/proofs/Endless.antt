@@ -133,7 +133,7 @@ module _ (room limit : ℕ) where
 
   silent : ran.machine.log ≡ []
   silent =
-      let b = (kept.same-forever [] room given).1 limit in
+      let b = (kept.same_forever [] room given).1 limit in
       nothing_before ran.machine.log b.2.0 (b.2.1 ∙ ap (λ (r : Run). r.world.log) (spent b.0 room))
 
 pub never_stops : NeverStops (main "while true { }")

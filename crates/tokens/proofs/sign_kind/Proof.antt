@@ -31,27 +31,27 @@ paired-requires-6 c κs = search rules
 
 returns : tie.Need-returns
 unfolding sign_in kind_or_none find begins signs bytes sign_kind
-returns c = c.paired.ensures ∙ pair_kind (eqb 61 c.before.before.args.c) (Sign.double-equals, "==") (some (Sign.equals, "=")) ∙ rw c.before.match.keys1
+returns c = c.paired.ensures ∙ pair_kind (eqb 61 c.before.before.args.c) (Sign.double_equals, "==") (some (Sign.equals, "=")) ∙ rw c.before.match.keys1
 
 returns-2 : tie.Need-returns-2
 unfolding sign_in kind_or_none find begins signs bytes sign_kind
-returns-2 c = c.paired2.ensures ∙ pair_kind (eqb 61 c.before.before.args.c) (Sign.bang-equals, "!=") (some (Sign.bang, "!")) ∙ rw c.before.match.keys2
+returns-2 c = c.paired2.ensures ∙ pair_kind (eqb 61 c.before.before.args.c) (Sign.bang_equals, "!=") (some (Sign.bang, "!")) ∙ rw c.before.match.keys2
 
 returns-3 : tie.Need-returns-3
 unfolding sign_in kind_or_none find begins signs bytes sign_kind
-returns-3 c = c.paired3.ensures ∙ pair_kind (eqb 61 c.before.before.args.c) (Sign.less-equals, "<=") (some (Sign.less, "<")) ∙ rw c.before.match.keys3
+returns-3 c = c.paired3.ensures ∙ pair_kind (eqb 61 c.before.before.args.c) (Sign.less_equals, "<=") (some (Sign.less, "<")) ∙ rw c.before.match.keys3
 
 returns-4 : tie.Need-returns-4
 unfolding sign_in kind_or_none find begins signs bytes sign_kind
-returns-4 c = c.paired4.ensures ∙ pair_kind (eqb 61 c.before.before.args.c) (Sign.greater-equals, ">=") (some (Sign.greater, ">")) ∙ rw c.before.match.keys4
+returns-4 c = c.paired4.ensures ∙ pair_kind (eqb 61 c.before.before.args.c) (Sign.greater_equals, ">=") (some (Sign.greater, ">")) ∙ rw c.before.match.keys4
 
 returns-5 : tie.Need-returns-5
 unfolding sign_in kind_or_none find begins signs bytes sign_kind
-returns-5 c = c.paired5.ensures ∙ pair_kind (eqb 38 c.before.before.args.c) (Sign.double-ampersand, "&&") none ∙ rw c.before.match.keys5
+returns-5 c = c.paired5.ensures ∙ pair_kind (eqb 38 c.before.before.args.c) (Sign.double_ampersand, "&&") none ∙ rw c.before.match.keys5
 
 returns-6 : tie.Need-returns-6
 unfolding sign_in kind_or_none find begins signs bytes sign_kind
-returns-6 c = c.paired6.ensures ∙ pair_kind (eqb 124 c.before.before.args.c) (Sign.double-bar, "||") none ∙ rw c.before.match.keys6
+returns-6 c = c.paired6.ensures ∙ pair_kind (eqb 124 c.before.before.args.c) (Sign.double_bar, "||") none ∙ rw c.before.match.keys6
 
 returns-7 : tie.Need-returns-7
 unfolding sign_in kind_or_none find begins signs bytes sign_kind

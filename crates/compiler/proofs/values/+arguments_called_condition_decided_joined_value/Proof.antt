@@ -197,7 +197,7 @@ condition-loop-less : (t : ℕ) → condition-lts.Need-loop-smaller (condition-c
 condition-loop-less t c = search rules
 
 condition-loop-again : (t : ℕ) → condition-lts.Need-loop-preserved (condition-calls t) (condition-at t) condition.Post condition-Inv-loop condition-μ-loop
-condition-loop-again t c = (D.heads-on c.before.before.before.loop.invariant.0 (D.heads_not _ _ _ _ _ _ _ _ _ (D.are_both (get_or c.before.before.before.before.before.before.before.args.words.now (c.before.before.before.loop.e - 4) 0) (first c.before.before.before.before.before.before.before.args.words.now c.before.before.before.loop.e) (sym c.before.is_not.ensures ∙ c.if1.true)).0 (D.are_both (get_or c.before.before.before.before.before.before.before.args.words.now (c.before.before.before.loop.e - 4) 0) (first c.before.before.before.before.before.before.before.args.words.now c.before.before.before.loop.e) (sym c.before.is_not.ensures ∙ c.if1.true)).1), omega (arith, c.before.before.before.loop.invariant.1), c.before.before.before.loop.invariant.2, c.before.before.before.loop.invariant.3, c.before.before.before.loop.invariant.4, c.before.before.before.loop.invariant.5)
+condition-loop-again t c = (D.heads_on c.before.before.before.loop.invariant.0 (D.heads_not _ _ _ _ _ _ _ _ _ (D.are_both (get_or c.before.before.before.before.before.before.before.args.words.now (c.before.before.before.loop.e - 4) 0) (first c.before.before.before.before.before.before.before.args.words.now c.before.before.before.loop.e) (sym c.before.is_not.ensures ∙ c.if1.true)).0 (D.are_both (get_or c.before.before.before.before.before.before.before.args.words.now (c.before.before.before.loop.e - 4) 0) (first c.before.before.before.before.before.before.before.args.words.now c.before.before.before.loop.e) (sym c.before.is_not.ensures ∙ c.if1.true)).1), omega (arith, c.before.before.before.loop.invariant.1), c.before.before.before.loop.invariant.2, c.before.before.before.loop.invariant.3, c.before.before.before.loop.invariant.4, c.before.before.before.loop.invariant.5)
 
 condition-word-requires : (t : ℕ) → condition-lts.Need-word-requires (condition-calls t) (condition-at t) condition.Post condition-Inv-loop condition-μ-loop
 condition-word-requires t c κs = search rules
@@ -209,7 +209,7 @@ condition-same-length : (t : ℕ) → condition-lts.Need-same-length (condition-
 condition-same-length t c = c.before.before.before.before.before.before.before.loop.invariant.5
 
 condition-returns : (t : ℕ) → condition-lts.Need-returns (condition-calls t) (condition-at t) condition.Post condition-Inv-loop condition-μ-loop
-condition-returns t c = (D.heads-to c.before.before.before.before.before.before.before.loop.invariant.0 (D.condition_broken _ _ _ _ _ _ _ _ _ (sym c.before.before.before.word.ensures ∙ c.before.before.if2.true) c.before.start_of_lem.ensures.0 c.if3.true), c.before.before.before.before.before.before.before.loop.invariant.2)
+condition-returns t c = (D.heads_to c.before.before.before.before.before.before.before.loop.invariant.0 (D.condition_broken _ _ _ _ _ _ _ _ _ (sym c.before.before.before.word.ensures ∙ c.before.before.if2.true) c.before.start_of_lem.ensures.0 c.if3.true), c.before.before.before.before.before.before.before.loop.invariant.2)
 
 condition-word-requires-2 : (t : ℕ) → condition-lts.Need-word-requires-2 (condition-calls t) (condition-at t) condition.Post condition-Inv-loop condition-μ-loop
 condition-word-requires-2 t c κs = search rules
@@ -224,7 +224,7 @@ condition-loop-less-2 : (t : ℕ) → condition-lts.Need-loop-smaller-2 (conditi
 condition-loop-less-2 t c = omega (arith, c.before.before.before.before.before.before.before.start_of_lem.ensures.1, c.before.before.before.before.before.before.if3.false, c.before.before.before.before.before.before.before.before.before.before.before.before.loop-test.true)
 
 condition-loop-again-2 : (t : ℕ) → condition-lts.Need-loop-preserved-2 (condition-calls t) (condition-at t) condition.Post condition-Inv-loop condition-μ-loop
-condition-loop-again-2 t c = (D.heads-on c.before.before.before.before.before.before.before.before.before.before.before.before.before.loop.invariant.0 (D.heads_aimed c.aim.ensures (D.heads_join _ _ _ _ _ _ _ _ _ _ c.before.before.before.before.before.before.before.before.before.before.before.before.before.loop.invariant.3 (sym c.before.before.before.before.before.before.before.before.before.word.ensures ∙ c.before.before.before.before.before.before.before.before.if2.true) c.before.before.before.before.before.before.before.start_of_lem.ensures.0 (ap (λ (w : _). eqb w 7) c.before.before.before.before.before.word2.ensures) c.before.before.before.condition.ensures.0)), omega (arith, c.before.before.before.before.before.before.before.before.before.before.before.before.before.loop.invariant.1, c.before.before.before.before.before.before.before.start_of_lem.ensures.1), omega (arith, c.before.before.before.before.before.before.before.before.before.before.before.before.before.loop.invariant.2, c.before.before.before.condition.ensures.1), (D.aimed (agree c.before.before.before.before.before.before.before.before.before.before.before.before.before.loop.truth (eqb c.before.before.before.before.before.word2.result 7)) c.before.before.before.before.before.before.before.before.before.before.before.before.before.loop.invariant.3 c.before.before.before.condition.ensures.1 c.aim.ensures).0, omega (arith, (D.aimed (agree c.before.before.before.before.before.before.before.before.before.before.before.before.before.loop.truth (eqb c.before.before.before.before.before.word2.result 7)) c.before.before.before.before.before.before.before.before.before.before.before.before.before.loop.invariant.3 c.before.before.before.condition.ensures.1 c.aim.ensures).1, c.before.before.before.before.before.before.before.before.before.before.before.before.before.loop.invariant.4), omega (arith, c.before.before.before.condition.auto, c.before.before.before.before.before.before.before.before.before.before.before.before.before.loop.invariant.5))
+condition-loop-again-2 t c = (D.heads_on c.before.before.before.before.before.before.before.before.before.before.before.before.before.loop.invariant.0 (D.heads_aimed c.aim.ensures (D.heads_join _ _ _ _ _ _ _ _ _ _ c.before.before.before.before.before.before.before.before.before.before.before.before.before.loop.invariant.3 (sym c.before.before.before.before.before.before.before.before.before.word.ensures ∙ c.before.before.before.before.before.before.before.before.if2.true) c.before.before.before.before.before.before.before.start_of_lem.ensures.0 (ap (λ (w : _). eqb w 7) c.before.before.before.before.before.word2.ensures) c.before.before.before.condition.ensures.0)), omega (arith, c.before.before.before.before.before.before.before.before.before.before.before.before.before.loop.invariant.1, c.before.before.before.before.before.before.before.start_of_lem.ensures.1), omega (arith, c.before.before.before.before.before.before.before.before.before.before.before.before.before.loop.invariant.2, c.before.before.before.condition.ensures.1), (D.aimed (agree c.before.before.before.before.before.before.before.before.before.before.before.before.before.loop.truth (eqb c.before.before.before.before.before.word2.result 7)) c.before.before.before.before.before.before.before.before.before.before.before.before.before.loop.invariant.3 c.before.before.before.condition.ensures.1 c.aim.ensures).0, omega (arith, (D.aimed (agree c.before.before.before.before.before.before.before.before.before.before.before.before.before.loop.truth (eqb c.before.before.before.before.before.word2.result 7)) c.before.before.before.before.before.before.before.before.before.before.before.before.before.loop.invariant.3 c.before.before.before.condition.ensures.1 c.aim.ensures).1, c.before.before.before.before.before.before.before.before.before.before.before.before.before.loop.invariant.4), omega (arith, c.before.before.before.condition.auto, c.before.before.before.before.before.before.before.before.before.before.before.before.before.loop.invariant.5))
 
 condition-decided-requires : (t : ℕ) → condition-lts.Need-decided-requires (condition-calls t) (condition-at t) condition.Post condition-Inv-loop condition-μ-loop
 condition-decided-requires t c κs = (omega (arith, c.before.before.before.before.before.before.before.before.before.before.requires.0, c.before.before.before.before.before.before.loop.invariant.1), (record { small = omega (arith, c.before.before.before.before.before.before.before.before.before.before.requires.1.small, c.before.before.before.before.before.before.loop.invariant.1); ahead = c.before.before.before.before.before.before.loop.invariant.3; room = c.before.before.before.before.before.before.loop.invariant.4 }, (c.before.before.before.before.before.loop-test.true, (λ h. c.before.if2.false (c.before.before.word.ensures ∙ h), sym c.before.before.before.before.is_not.ensures ∙ c.before.before.before.if1.false))))
@@ -233,13 +233,13 @@ condition-same-length-2 : (t : ℕ) → condition-lts.Need-same-length-2 (condit
 condition-same-length-2 t c = omega (arith, c.before.before.decided.auto, c.before.before.before.before.before.before.before.before.before.loop.invariant.5)
 
 condition-returns-2 : (t : ℕ) → condition-lts.Need-returns-2 (condition-calls t) (condition-at t) condition.Post condition-Inv-loop condition-μ-loop
-condition-returns-2 t c = (D.heads-to c.before.before.before.before.before.before.before.before.before.loop.invariant.0 c.before.before.decided.ensures.0, omega (arith, c.before.before.before.before.before.before.before.before.before.loop.invariant.2, c.before.before.decided.ensures.1))
+condition-returns-2 t c = (D.heads_to c.before.before.before.before.before.before.before.before.before.loop.invariant.0 c.before.before.decided.ensures.0, omega (arith, c.before.before.before.before.before.before.before.before.before.loop.invariant.2, c.before.before.decided.ensures.1))
 
 condition-same-length-3 : (t : ℕ) → condition-lts.Need-same-length-3 (condition-calls t) (condition-at t) condition.Post condition-Inv-loop condition-μ-loop
 condition-same-length-3 t c = c.before.loop.invariant.5
 
 condition-returns-3 : (t : ℕ) → condition-lts.Need-returns-3 (condition-calls t) (condition-at t) condition.Post condition-Inv-loop condition-μ-loop
-condition-returns-3 t c = (D.heads-to c.before.loop.invariant.0 (D.condition_nowhere _ _ _ _ _ _ _ _ (omega (arith, c.loop-test.false))), c.before.loop.invariant.2)
+condition-returns-3 t c = (D.heads_to c.before.loop.invariant.0 (D.condition_nowhere _ _ _ _ _ _ _ _ (omega (arith, c.loop-test.false))), c.before.loop.invariant.2)
 
 decided-sub-word : (t : ℕ) → decided-lts.Need-overflow-sub-word (decided-calls t) (decided-at t) decided.Post
 decided-sub-word t c = c.before.before.before.requires.1.1.0
