@@ -1,4 +1,6 @@
 // Whether a run of a text and a run of its image agree, as claim 3 says they do.
+#![tactic(auto)]
+
 ghost use Rattle.std.specs.Prelude.{◌≡◌};
 ghost use Rattle.word.specs.Choice.{both};
 ghost use Rattle.word.specs.Bytes.{words_of_bytes};

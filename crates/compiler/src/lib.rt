@@ -1,5 +1,7 @@
 // The compiler: from the words of a flat core program to the image. Each function makes what a definition of the crate `codegen` gives of every
 // program that the words may hold.
+#![tactic(auto)]
+
 pub mod items; // items, by the position behind them, and where an expression starts
 pub mod places; // where values are
 pub mod own; // an item's own code

@@ -1,5 +1,7 @@
 // Document 01 §4 of a whole program: its arrays and functions, `main`, and each function's parameters and body. From the flat tree of a text to its flat
 // core program, in working room that the caller lends, or the place of a broken rule.
+#![tactic(auto)]
+
 pub mod globals; // arrays and functions by name
 pub mod entry; // `main`
 pub mod parameters; // the parameters of a function

@@ -1,4 +1,6 @@
 // Document 01's vectors, and further texts: what the lines of standard input ask, it answers a line each. `tests/document_01` has the lines' form.
+#![tactic(auto)]
+
 use crate::running::{Asked, question};
 use crate::say::say;
 

@@ -1,4 +1,6 @@
 // Document 03's vectors, and further runs: what the lines of standard input ask, it answers a line each. `tests/document_03` has the lines' form.
+#![tactic(auto)]
+
 ghost use Rattle.std.specs.Prelude.{◌<◌, ◌≤◌, ◌^◌, ◌≡◌, length};
 
 use emulator::run::Ended;

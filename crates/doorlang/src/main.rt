@@ -1,4 +1,6 @@
 // The command-line program: files and arguments around the tool chain's entries.
+#![tactic(auto)]
+
 ghost use Rattle.std.specs.Prelude.{◌<◌, ◌≤◌, ◌^◌, length};
 
 use console::arguments;

@@ -1,6 +1,7 @@
 // The tool chain's entries for programs in C: `rt staticlib doorlang_c` makes the library, and include/doorlang.h declares them. A slice is a pointer
 // and a length to C. As the entries, none has a `requires`: each returns the entry's answer, and writes its figures where that is 0, and the place of a
 // text where that is 1 or 2.
+#![tactic(auto)]
 
 mod place; // the place of a refused text
 pub mod check; // the answer to a text

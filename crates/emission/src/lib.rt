@@ -1,4 +1,6 @@
 // The pieces of code that the compiler puts together. Each function puts what a definition of the crate `codegen` gives.
+#![tactic(auto)]
+
 use processor::{Alu, Cond};
 
 pub mod tape; // instructions, put one before the other

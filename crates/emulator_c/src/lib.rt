@@ -1,4 +1,6 @@
 // The emulator and the decoder for programs in C: `rt staticlib emulator_c` makes the library. A slice is a pointer and a length to C.
+#![tactic(auto)]
+
 ghost use Rattle.std.specs.Prelude.{◌≡◌, ◌≤◌, length};
 ghost use Rattle.processor.specs.Instructions.{decode_of, encode_of};
 ghost use Rattle.processor.specs.Machine.{register_count, memory_bytes};

@@ -1,4 +1,6 @@
 // Document 01 §3: from the tokens of a text to its tree, as words in working room that the caller lends.
+#![tactic(auto)]
+
 ghost use Rattle.grammar.specs.Answers.{Answers};
 
 use crate::program::items;

@@ -1,5 +1,7 @@
 // Document 01 §5, run: the flat core program that `flat` describes, over the caller's buffers. What `run` ensures is the meaning of the words, and with
 // the laws of `flat` that of the program they are the words of (proofs/Whole.antt).
+#![tactic(auto)]
+
 ghost use Rattle.std.specs.Prelude.{◌≡◌, ◌≤◌, length};
 ghost use Rattle.interpreter.specs.Post.{working_room, ended_of, Runs};
 

@@ -1,5 +1,7 @@
 // The panel processor of document 03: its instructions, how a run of it stands, and the way from words to instructions and back. Its
 // state and its steps are definitions (specs/).
+#![tactic(auto)]
+
 ghost use Rattle.std.specs.Prelude.{◌≡◌, ◌<◌, ◌^◌};
 ghost use Rattle.processor.specs.declared.Instr.{Instr};
 ghost use Rattle.processor.specs.Instructions.{decode_of, encode_of, WellFormed};

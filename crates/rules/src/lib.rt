@@ -1,4 +1,6 @@
 // Document 01 §4: from the flat tree of a text to its flat core program, in working room that the caller lends, or the place of a broken rule.
+#![tactic(auto)]
+
 pub mod names; // names in the text, and what they stand for
 pub mod types; // types, alone and in rows
 pub mod operands; // the stack of operands: a type and a start each

@@ -1,5 +1,7 @@
 // Document 01 §2: the tokens of a text, in working room that the caller lends.
 // Each is three words: its kind (the constants below), the place of its first byte, and a name's length or a number's number.
+#![tactic(auto)]
+
 ghost use Rattle.std.specs.Prelude.{◌≡◌, ℕ, ◌+◌, ◌*◌, ◌-◌, ◌≤◌, ◌<◌, [], ◌∷◌, true, false, length, get_or, take, drop, eqb};
 ghost use Rattle.std.proofs.lemmas.List.Edits.{sets};
 ghost use Rattle.word.specs.Choice.{pick};

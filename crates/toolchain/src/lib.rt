@@ -1,4 +1,6 @@
 // The tool chain's public entry points. None has a `requires`: each answers whatever it is given, and its contract is the whole of what is claimed.
+#![tactic(auto)]
+
 ghost use Rattle.std.specs.Prelude.{◌≡◌, ◌≤◌, ◌+◌, ◌^◌, ◌<◌, length};
 ghost use Rattle.processor.specs.Machine.{memory_bytes, register_count};
 ghost use Rattle.processor.specs.Image.{longest_code};

@@ -1,4 +1,6 @@
 // Words of 32 bits, the numbers of both documents: each function computes a definition of specs/Word.antt or specs/Bytes.antt.
+#![tactic(auto)]
+
 pub mod arithmetic; // sums, differences and products that wrap
 pub mod order; // the signed and the unsigned order, a word's sign and magnitude
 pub mod division; // quotients and remainders
