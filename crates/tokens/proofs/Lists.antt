@@ -115,6 +115,7 @@ module _ {A : Type 0} where
   every f (r ∷ rs) = both (f r) (every f rs)
 
   pub every_in : (f : A → Bool) (r : A) (rs : List A) → every f rs ≡ true → In r rs → f r ≡ true
+  every_in f r [] h i = elim i [ ]
   every_in f r (x ∷ rs) h (here e) = ap f e ∙ (both_true (f x) (every f rs) h).0
   every_in f r (x ∷ rs) h (there i) = every_in f r rs (both_true (f x) (every f rs) h).1 i
 
@@ -144,6 +145,7 @@ distinct (x ∷ rs) = both (every (λ r. not (same (bytes r.1) (bytes x.1))) rs)
 
 pub find_only : {A : Type 0} (r : A × String) (rs : List (A × String)) → distinct rs ≡ true → In r rs → find (same (bytes r.1)) rs ≡ some r
 unfolding find
+find_only {A = A} r [] d i = elim i [ ]
 find_only r (x ∷ rs) d (here e) = rw (e, same_refl (bytes x.1))
 find_only r (x ∷ rs) d (there i) =
     let q : (every (λ r. not (same (bytes r.1) (bytes x.1))) rs ≡ true) × (distinct rs ≡ true) = both_true (every (λ r. not (same (bytes r.1) (bytes x.1))) rs) (distinct rs) d in

@@ -1,0 +1,20 @@
+-- Each arm is the table's row with its number, and the last is none of them.
+use borrow.Author.Tests.{eq-eqb, ne_eqb}
+use Rattle.processor.specs.Instructions.{decode_store}
+use Rattle.processor.proofs.rows.store.Goals as goal
+
+pub returns-in-0 : goal.returns-in-0
+unfolding decode_store
+returns-in-0 c = rw (c.imm_s-imm.ensures, c.in-0.is)
+
+pub returns-in-1 : goal.returns-in-1
+unfolding decode_store
+returns-in-1 c = rw (c.imm_s-imm.ensures, c.in-1.is)
+
+pub returns-in-2 : goal.returns-in-2
+unfolding decode_store
+returns-in-2 c = rw (c.imm_s-imm.ensures, c.in-2.is)
+
+pub returns-in_default : goal.returns-in_default
+unfolding decode_store
+returns-in_default c = simp (ne_eqb _ _ c.in_default.in_default-own.rest.1, ne_eqb _ _ c.in_default.in_default-own.rest.0.1, ne_eqb _ _ c.in_default.in_default-own.rest.0.0.1)

@@ -1,0 +1,13 @@
+-- `is_digit` meets its contract.
+use mathlib.Core.Path.{◌≡◌, sym, refl, ◌∙◌, ap}
+use borrow.Author.Tests.{eq-eqb, ne_eqb, le-leb, lt-leb}
+use Rattle.language.specs.Tokens.{is_digit}
+use Rattle.tokens.proofs.is_digit.Goals as goal
+
+pub returns-then-b-lt48 : goal.returns-then-b-lt48
+unfolding is_digit
+returns-then-b-lt48 c = rw (lt-leb 48 _ c.if-b-lt48.true)
+
+pub returns : goal.returns
+unfolding is_digit
+returns c = rw (le-leb 48 _ c.if-b-lt48.false)
