@@ -9,8 +9,11 @@ use Rattle.emulator.proofs.rows.op.Goals as goal
 
 pub returns : goal.returns
 unfolding decode_op
-returns c = record { by_index = λ m. record {
+returns c = record {
+  by_index = λ m. record {
     does = λ room l. c.finish.ensures.by_index m l
         ∙ rw (c.operation-v.ensures, c.second-b.ensures, c.first-a.ensures)
         (op_fused room (state c.args.registers.now c.args.pc m l Going) (find alu_key operations (key (funct3 c.args.w) (funct7 c.args.w))) (rd c.args.w) (rs1 c.args.w) (rs2 c.args.w));
-  }; logged_value = c.finish.ensures.logged_value, }
+  };
+  logged_value = c.finish.ensures.logged_value;
+}

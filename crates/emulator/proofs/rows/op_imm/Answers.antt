@@ -9,8 +9,11 @@ use Rattle.emulator.proofs.rows.op_imm.Goals as goal
 
 pub returns : goal.returns
 unfolding decode_op_imm decode_shift
-returns c = record { by_index = λ m. record {
+returns c = record {
+  by_index = λ m. record {
     does = λ room l. c.finish.ensures.by_index m l
         ∙ rw (c.immediate-v.ensures, c.first-a.ensures)
         (imm_fused room (state c.args.registers.now c.args.pc m l Going) (find alu_key immediates (funct3 c.args.w)) (find alu_key shifts (key (funct3 c.args.w) (funct7 c.args.w))) (rd c.args.w) (rs1 c.args.w) (rs2 c.args.w) (imm_i c.args.w));
-  }; logged_value = c.finish.ensures.logged_value, }
+  };
+  logged_value = c.finish.ensures.logged_value;
+}

@@ -9,4 +9,4 @@ returns-then-b-eq0 c = simp (eq-eqb _ _ c.if-b-eq0.true)
 
 pub returns-else-b-eq0 : goal.returns-else-b-eq0
 unfolding alu_of
-returns-else-b-eq0 c = rw c.remainder_Signed.ensures (simp (ne_eqb _ _ c.if-b-eq0.false))
+returns-else-b-eq0 c = rw c.remainder_signed.ensures (simp (ne_eqb _ _ c.if-b-eq0.false))
