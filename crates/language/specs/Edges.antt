@@ -1,16 +1,14 @@
 -- Document 01 §4 and §5 at their edges: each limit and one past it, each rule broken once, fuel to the unit, the ends of the range.
-use Rattle.std.specs.Prelude.{Bool, true, false, List, [], ◌∷◌, ◌++◌, ◌≡◌, refl, ℕ, zero, suc, ◌-◌, ◌+◌, ◌^◌, length, replicate}
+use Rattle.std.specs.Prelude.{true, false, List, [], ◌∷◌, ◌++◌, ◌≡◌, refl, ℕ, zero, suc, ◌+◌}
 use Rattle.std.proofs.Math.Option.{Option, none, some}
-use Prim.Native.String.{String}
 use Rattle.word.specs.Word.{add_w, sub_w, mul_w, neg_w, negative, magnitude, lt_s, quot_s, rem_s, bit_of}
 use Rattle.language.specs.Tree.{Name, Ty, int, bool, negate, not, eq, ne, lt, le, gt, ge, add, sub, mul, div, rem, or, and, strict, Strict, Param, Item, array, function, Expr, Stmt, Block, number, truth, name, element, call, unary, binary, declare, assign, store, when, choose, while, leave, give, emit, run, end, then}
 use Rattle.language.specs.Tree as T
 use Rattle.language.specs.Tokens.{bytes, same}
 use Rattle.language.specs.Core.{Program}
-use Rattle.language.specs.Core as C
 use Rattle.language.specs.Rules.{Ruled, keeps, breaks, main_name, elaborate, ◌>>=◌, need, found, global_of, local_of, array_of, function_of, declare as declareItem, declare_all, main_of, want, changed, joined, combined, indexed, fit, called, known, expr, exprs, fresh, leaves, gives, stmt, block as block_of, parameters, is_return, ends_in_return, function_from, functions_from}
-use Rattle.language.specs.Meaning.{World, Stop, trapped, out_of_fuel, Outcome, finished, stopped, Run, run_of, bind, begin, apply, operate, read, write, fetch, assign as assignSlot, rounds, append, eval, evals, exec, block, back, call_at}
-use Rattle.language.specs.Examples.{var, ◌⟨◌⟩◌, minus, body, one, param, main}
+use Rattle.language.specs.Meaning.{trapped, out_of_fuel, Outcome, finished, stopped, Run, run_of, bind, begin, apply, operate, read, write, fetch, assign as assignSlot, rounds, append, eval, evals, exec, block, back, call_at}
+use Rattle.language.specs.Examples.{◌⟨◌⟩◌, minus, body, one, param, main}
 
 -- what is left of the fuel that is given, with the log's room that is given
 pub record Left : Type 0 where

@@ -1,5 +1,5 @@
 -- Document 01 §6 and §7: its vectors, computed. Trees are written out here, most of them with 0 for every place.
-use Rattle.std.specs.Prelude.{Bool, true, false, List, [], ◌∷◌, ◌++◌, ◌≡◌, refl, ℕ, ◌-◌, ◌^◌}
+use Rattle.std.specs.Prelude.{true, false, List, [], ◌∷◌, ◌≡◌, refl, ℕ, ◌-◌, ◌^◌}
 use Rattle.std.proofs.Math.Option.{Option, none, some}
 use Prim.Native.String.{String}
 use Rattle.word.specs.Word.{add_w, sub_w, mul_w, neg_w, negative, magnitude, lt_s, quot_s, rem_s, bit_of}
@@ -9,7 +9,7 @@ use Rattle.language.specs.Tokens.{bytes, same}
 use Rattle.language.specs.Core.{Program}
 use Rattle.language.specs.Core as C
 use Rattle.language.specs.Rules.{Ruled, keeps, breaks, main_name, elaborate, ◌>>=◌, need, found, global_of, local_of, array_of, function_of, declare as declareItem, declare_all, main_of, want, changed, joined, combined, indexed, fit, called, known, expr, exprs, fresh, leaves, gives, stmt, block as block_of, parameters, is_return, ends_in_return, function_from, functions_from}
-use Rattle.language.specs.Meaning.{World, Stop, trapped, out_of_fuel, Outcome, finished, stopped, Run, run_of, bind, begin, apply, operate, read, write, fetch, assign as assignSlot, rounds, append, eval, evals, exec, block, back, call_at}
+use Rattle.language.specs.Meaning.{trapped, out_of_fuel, Outcome, finished, stopped, Run, run_of, bind, begin, apply, operate, read, write, fetch, assign as assignSlot, rounds, append, eval, evals, exec, block, back, call_at}
 
 -- Writing trees
 

@@ -3,7 +3,7 @@
 -- then functions, from the first to the last, each in the order of its text: of an expression or a statement first the expressions in it, then
 -- its own rules, then its blocks; of a function its parameters, then its block, then that it ends in return, at its name.
 -- The place is that of the token which the tree's node carries; the text's end where there is no `main`.
-use Rattle.std.specs.Prelude.{Bool, true, false, List, [], ◌∷◌, ℕ, zero, suc, ◌+◌, ◌-◌, ltb, leb, eqb, length}
+use Rattle.std.specs.Prelude.{Bool, true, false, List, [], ◌∷◌, ℕ, suc, ◌+◌, ◌-◌, ltb, leb, eqb, length}
 use Rattle.std.proofs.Math.Option.{Option, none, some}
 use Rattle.word.specs.Choice.{pick, both}
 use Rattle.language.specs.Tree.{Place, Name, Ty, int, bool, Unary, negate, not, Strict, eq, ne, lt, le, gt, ge, add, sub, mul, div, rem, Binary, or, and, strict, Param, Item, array, function}
