@@ -107,8 +107,8 @@ most_functions = 256
 abbrev pub most_parameters : ℕ
 most_parameters = 8
 
-abbrev pub most_locals_lem : ℕ
-most_locals_lem = 64
+abbrev pub most_locals : ℕ
+most_locals = 64
 
 -- what is declared so far, the last first, and how much
 pub record Declared : Type 0 where
@@ -307,7 +307,7 @@ module _ (globals : List Global) where
         y ← expr s.visible e
         v ← want t at y
         fresh s.visible at x
-        need (ltb s.count most_locals_lem) at
+        need (ltb s.count most_locals) at
         keeps (C.put s.count v, record { visible = record { name = x; type = t; slot = s.count } ∷ s.visible; count = suc s.count })
       stmt (T.assign at x e) s = do
         y ← expr s.visible e
