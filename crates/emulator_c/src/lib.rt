@@ -13,7 +13,7 @@ use processor::{Instr, Status, decode, encode};
 
 // An instruction as numbers: the opcode of its row in document 03 §3's table, the row's second column in one number, and the fields of its
 // format. What it hasn't is 0.
-#[derive(Drop)]
+#[derive(Clone, Copy)]
 pub struct Columns {
     pub opcode: u32,
     pub key: u32,
