@@ -1,6 +1,5 @@
 -- `file` meets its contract: the test is the definition's.
 use borrow.Author.Tests.{lt-ltb, le-ltb}
-use mathlib.Core.Path.{sym, refl, ap}
 use Rattle.console.specs.Arguments.{filed, files_of}
 use native.Mathlib.Omega.{arith}
 use Rattle.console.proofs.arguments.file.Goals as goal

@@ -1,6 +1,6 @@
 -- `option` meets its contract: each test is one of the definition's.
-use borrow.Author.Tests.{eq-eqb, ne_eqb}
-use mathlib.Core.Path.{sym, refl, ◌∙◌}
+use borrow.Author.Tests.{ne_eqb}
+use mathlib.Core.Path.{sym, ◌∙◌}
 use Rattle.console.specs.Arguments.{named}
 use Rattle.console.proofs.arguments.option.Goals as goal
 

@@ -1,6 +1,6 @@
 -- `see` meets its contract: each test is one of the definition's.
 use borrow.Author.Tests.{eq-eqb, ne_eqb}
-use mathlib.Core.Path.{refl, sym, ap, ◌∙◌}
+use mathlib.Core.Path.{sym, ap, ◌∙◌}
 use Rattle.console.specs.Arguments.{see_of, line}
 use Rattle.console.proofs.arguments.see.Goals as goal
 

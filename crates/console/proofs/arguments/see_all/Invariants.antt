@@ -1,10 +1,8 @@
 -- `see_all` meets its contract: what the rest gives from where the loop is, is what the whole gives.
-use mathlib.Core.Path.{◌≡◌, refl, ap, sym, ◌∙◌}
+use mathlib.Core.Path.{◌≡◌}
 use Prim.Native.Nat.{◌-◌, ◌≤◌, ◌+◌}
-use native.Mathlib.Omega.{arith}
 use lib.ListN.{length, drop}
 use Rattle.console.specs.Arguments.{see_all, line}
-use Rattle.console.proofs.Folds.{see_on, see_out, said_out}
 use Rattle.console.proofs.arguments.see_all.Given as goal
 
 abbrev pub invariant-loop-i : goal.invariant-loop-i

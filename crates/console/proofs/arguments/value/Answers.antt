@@ -1,5 +1,4 @@
 -- `value` meets its contract.
-use mathlib.Core.Path.{refl}
 use Rattle.console.specs.Arguments.{valued}
 use Rattle.console.proofs.arguments.value.Goals as goal
 

@@ -1,9 +1,7 @@
 -- `all_digits` meets its contract: what is left decides, from where the loop is.
-use mathlib.Core.Path.{◌≡◌, refl, sym, ◌∙◌}
-use Prim.Native.Nat.{◌-◌, ◌≤◌}
+use mathlib.Core.Path.{refl, sym, ◌∙◌}
 use native.Mathlib.Omega.{arith}
-use lib.ListN.{length, drop}
-use Rattle.language.specs.Tokens.{all, is_digit}
+use Rattle.language.specs.Tokens.{is_digit}
 use Rattle.console.proofs.Folds.{all_on, all_off, all_out}
 use Rattle.console.proofs.numbers.all_digits.Goals as goal
 

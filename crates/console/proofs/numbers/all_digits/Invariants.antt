@@ -1,10 +1,8 @@
 -- `all_digits` meets its contract: what is left decides, from where the loop is.
-use mathlib.Core.Path.{◌≡◌, refl, sym, ◌∙◌}
+use mathlib.Core.Path.{◌≡◌}
 use Prim.Native.Nat.{◌-◌, ◌≤◌}
-use native.Mathlib.Omega.{arith}
 use lib.ListN.{length, drop}
 use Rattle.language.specs.Tokens.{all, is_digit}
-use Rattle.console.proofs.Folds.{all_on, all_off, all_out}
 use Rattle.console.proofs.numbers.all_digits.Given as goal
 
 abbrev pub invariant-loop-i : goal.invariant-loop-i

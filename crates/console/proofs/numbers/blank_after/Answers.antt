@@ -1,5 +1,5 @@
 -- `blank_after` meets its contract: each test is one of the definition's.
-use mathlib.Core.Path.{refl, sym}
+use mathlib.Core.Path.{sym}
 use borrow.Author.Tests.{eq-eqb, ne_eqb}
 use Rattle.console.specs.Numbers.{blank_after}
 use Rattle.console.proofs.numbers.blank_after.Goals as goal

@@ -1,5 +1,4 @@
 -- `more` meets its contract: the test is the definition's.
-use native.Mathlib.Omega.{arith}
 use borrow.Author.Tests.{le-leb, lt-leb}
 use Rattle.console.specs.Numbers.{more_of}
 use Rattle.console.proofs.numbers.more.Goals as goal

@@ -1,5 +1,5 @@
 -- `number_of` meets its contract: each test is one of the definition's.
-use mathlib.Core.Path.{◌≡◌, refl, sym, ◌∙◌}
+use mathlib.Core.Path.{sym, ◌∙◌}
 use Rattle.console.proofs.Folds.{no_digits, some_digits}
 use Rattle.console.proofs.numbers.number_of.Goals as goal
 

@@ -1,7 +1,7 @@
 -- `read_byte` meets its contract: each test is one of the definition's.
-use mathlib.Core.Path.{sym, ◌∙◌, ap}
+use mathlib.Core.Path.{sym, ◌∙◌}
 use borrow.Author.Tests.{lt-ltb, le-ltb}
-use Rattle.console.specs.Numbers.{read_byte, input}
+use Rattle.console.specs.Numbers.{read_byte}
 use Rattle.console.proofs.numbers.read_byte.Goals as goal
 
 pub returns-then-r-gt-NEGATIVE : goal.returns-then-r-gt-NEGATIVE

@@ -1,9 +1,6 @@
 -- `read_bytes` meets its contract: what the rest gives from where the loop is, is what the whole gives.
-use mathlib.Core.Path.{◌≡◌, refl}
-use Prim.Native.Nat.{◌-◌, ◌≤◌}
+use mathlib.Core.Path.{refl}
 use native.Mathlib.Omega.{arith}
-use lib.ListN.{length, drop}
-use Rattle.console.specs.Numbers.{read_bytes, input}
 use Rattle.console.proofs.Folds.{read_on, read_out}
 use Rattle.console.proofs.numbers.read_bytes.Goals as goal
 

@@ -1,10 +1,8 @@
 -- `read_bytes` meets its contract: what the rest gives from where the loop is, is what the whole gives.
-use mathlib.Core.Path.{◌≡◌, refl}
+use mathlib.Core.Path.{◌≡◌}
 use Prim.Native.Nat.{◌-◌, ◌≤◌}
-use native.Mathlib.Omega.{arith}
 use lib.ListN.{length, drop}
 use Rattle.console.specs.Numbers.{read_bytes, input}
-use Rattle.console.proofs.Folds.{read_on, read_out}
 use Rattle.console.proofs.numbers.read_bytes.Given as goal
 
 abbrev pub invariant-loop-i : goal.invariant-loop-i

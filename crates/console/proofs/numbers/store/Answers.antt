@@ -1,6 +1,4 @@
 -- `store` meets its contract: the test is the definition's.
-use mathlib.Core.Path.{refl}
-use native.Mathlib.Omega.{arith}
 use borrow.Author.Tests.{lt-ltb, le-ltb}
 use Rattle.console.specs.Numbers.{stored}
 use Rattle.console.proofs.numbers.store.Goals as goal

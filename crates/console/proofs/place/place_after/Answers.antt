@@ -1,9 +1,7 @@
 -- `place_after` meets its contract: what the rest gives from where the loop is, is what the whole gives.
-use mathlib.Core.Path.{◌≡◌, refl}
-use Prim.Native.Nat.{◌-◌, ◌+◌, ◌≤◌}
+use mathlib.Core.Path.{refl}
 use native.Mathlib.Omega.{arith}
-use lib.ListN.{length, drop}
-use Rattle.console.specs.Places.{after_all, place_after}
+use Rattle.console.specs.Places.{place_after}
 use Rattle.console.proofs.Folds.{place_on, place_out, after_small}
 use Rattle.console.proofs.place.place_after.Goals as goal
 

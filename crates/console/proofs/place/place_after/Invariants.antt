@@ -1,10 +1,8 @@
 -- `place_after` meets its contract: what the rest gives from where the loop is, is what the whole gives.
-use mathlib.Core.Path.{◌≡◌, refl}
+use mathlib.Core.Path.{◌≡◌}
 use Prim.Native.Nat.{◌-◌, ◌+◌, ◌≤◌}
-use native.Mathlib.Omega.{arith}
 use lib.ListN.{length, drop}
-use Rattle.console.specs.Places.{after_all, place_after}
-use Rattle.console.proofs.Folds.{place_on, place_out, after_small}
+use Rattle.console.specs.Places.{after_all}
 use Rattle.console.proofs.place.place_after.Given as goal
 
 abbrev pub invariant-loop-i : goal.invariant-loop-i
