@@ -4,8 +4,8 @@ use native.Mathlib.Omega.{arith}
 use Rattle.emission.proofs.Calling.{loads_none, loads_more}
 use Rattle.emission.proofs.calls.+loads.Goals as goal
 
-pub loads-returns-then-n-eq0 : goal.loads-returns-then-n-eq0
-loads-returns-then-n-eq0 t c = record { emits = loads_none c.if-n-eq0.true; within = omega arith }
+pub returns-then-n-eq0 : goal.returns-then-n-eq0
+returns-then-n-eq0 t c = record { emits = loads_none c.if-n-eq0.true; within = omega arith }
 
-pub loads-returns : goal.loads-returns
-loads-returns t c = record { emits = loads_more (c.args.n - 1) (omega arith) c.load-last.ensures.emits_at c.loads.ensures.emits; within = omega arith }
+pub returns : goal.returns
+returns t c = record { emits = loads_more (c.args.n - 1) (omega arith) c.load-last.ensures.emits_at c.loads.ensures.emits; within = omega arith }

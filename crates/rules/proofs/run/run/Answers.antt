@@ -44,7 +44,7 @@ pub shape_of-core-then-not-m : goal.shape_of-core-then-not-m
 shape_of-core-then-not-m c = c.call_arguments-r.auto.core
 
 pub returns-then-not-m : goal.returns-then-not-m
-returns-then-not-m c = record { runs = L.run_wrong _ _ _ _ _ _ _ _ _ _ _ _ _ c.call_arguments-r.ensures (omega (arith, c.if-head-last.false, c.requires.whole, c.requires.all.room.words)) c.in-Done.is _ (c.word-n.ensures ∙ L.last_word c.args.tree.now c.args.spot.tree (4 * (c.args.head.first - 1))) _ _ _ _ _ _ _ _ c.dropped-m.ensures c.if-not-m.true; moves = M.stuck _ _ _ _ }
+returns-then-not-m c = record { runs = L.run_wrong _ _ _ _ _ _ _ _ _ _ _ _ _ c.call_arguments-r.ensures (omega (arith, c.if-head-last.false, c.requires.whole, c.requires.all.room.words)) c.in-Done.is _ (c.word-n.ensures ∙ L.last_word c.args.tree.now c.args.spot.tree (4 * (c.args.head.first - 1))) _ _ _ _ _ _ _ _ c.dropped-m.ensures (denied _ c.if-not-m.true); moves = M.stuck _ _ _ _ }
 
 pub overflow_add-spot-in-Done-3 : goal.overflow_add-spot-in-Done-3
 overflow_add-spot-in-Done-3 c = omega (arith, c.requires.all.room.core_place, c.if-head-last.false, c.requires.whole, c.requires.all.room.words)
@@ -68,7 +68,7 @@ pub shape_of-core-else-not-m : goal.shape_of-core-else-not-m
 shape_of-core-else-not-m c = c.header_of_one.auto.core ∙ (c.item.auto.core ∙ c.call_arguments-r.auto.core)
 
 pub returns-else-not-m : goal.returns-else-not-m
-returns-else-not-m c = record { runs = L.run_next _ _ _ _ _ _ _ _ _ _ _ _ _ c.call_arguments-r.ensures (omega (arith, c.if-head-last.false, c.requires.whole, c.requires.all.room.words)) c.in-Done.is _ (c.word-n.ensures ∙ L.last_word c.args.tree.now c.args.spot.tree (4 * (c.args.head.first - 1))) _ _ _ _ _ _ _ _ c.dropped-m.ensures c.if-not-m.false c.item.ensures c.header_of_one.ensures; moves = M.stays _ _ _ }
+returns-else-not-m c = record { runs = L.run_next _ _ _ _ _ _ _ _ _ _ _ _ _ c.call_arguments-r.ensures (omega (arith, c.if-head-last.false, c.requires.whole, c.requires.all.room.words)) c.in-Done.is _ (c.word-n.ensures ∙ L.last_word c.args.tree.now c.args.spot.tree (4 * (c.args.head.first - 1))) _ _ _ _ _ _ _ _ c.dropped-m.ensures (granted _ c.if-not-m.false) c.item.ensures c.header_of_one.ensures; moves = M.stays _ _ _ }
 
 pub shape_of-types-in-Broken : goal.shape_of-types-in-Broken
 shape_of-types-in-Broken c = c.call_arguments-r.auto.types

@@ -53,7 +53,7 @@ pub shape_of-core-then-not-m : goal.shape_of-core-then-not-m
 shape_of-core-then-not-m c = L.core_kept c.loop-i.invariant
 
 pub returns-then-not-m : goal.returns-then-not-m
-returns-then-not-m c = L.rule_broken c.loop-i.invariant c.loop-i-test.true c.if-tree-at.false c.item_at-this.ensures.0 c.item_at-this.ensures.1 _ _ _ _ _ _ _ _ c.node-m.ensures c.if-not-m.true
+returns-then-not-m c = L.rule_broken c.loop-i.invariant c.loop-i-test.true c.if-tree-at.false c.item_at-this.ensures.0 c.item_at-this.ensures.1 _ _ _ _ _ _ _ _ c.node-m.ensures (denied _ c.if-not-m.true)
 
 pub push-h-requires : goal.push-h-requires
 push-h-requires c = (omega (arith, c.requires.for_types, c.if-tree-at.false, c.loop-i.invariant.few, c.loop-i.invariant.types), omega (arith, c.requires.for_starts, c.if-tree-at.false, c.loop-i.invariant.few, c.loop-i.invariant.starts))
@@ -86,7 +86,7 @@ pub loop-i-smaller : goal.loop-i-smaller
 loop-i-smaller c = omega (arith, c.loop-i-test.true)
 
 pub loop-i-preserved : goal.loop-i-preserved
-loop-i-preserved c = L.item_done c.loop-i.invariant c.loop-i-test.true c.if-tree-at.false c.item_at-this.ensures.0 c.item_at-this.ensures.1 _ _ _ _ _ _ _ _ c.node-m.ensures c.if-not-m.false c.push-h.ensures c.item.ensures c.charge.ensures c.push-h.auto.types c.push-h.auto.starts
+loop-i-preserved c = L.item_done c.loop-i.invariant c.loop-i-test.true c.if-tree-at.false c.item_at-this.ensures.0 c.item_at-this.ensures.1 _ _ _ _ _ _ _ _ c.node-m.ensures (granted _ c.if-not-m.false) c.push-h.ensures c.item.ensures c.charge.ensures c.push-h.auto.types c.push-h.auto.starts
 
 pub shape_of-types : goal.shape_of-types
 shape_of-types c = c.loop-i.invariant.types
