@@ -12,7 +12,7 @@ pub mod functions; // functions, and how long they are
 pub mod programs; // where functions begin, and the image
 
 // An image of so many bytes; or it is too long.
-#[derive(Drop)]
+#[derive(Clone, Copy)]
 pub enum Compiled {
     Image(usize),
     TooLong,

@@ -42,7 +42,7 @@ pub fn above(p: Place, d: u32) -> u32
 }
 
 // Of two sides the right one: where it starts, and how many temporaries are in use before it.
-#[derive(Drop)]
+#[derive(Clone, Copy)]
 pub struct Right {
     pub middle: usize,
     pub next: u32,

@@ -3,7 +3,7 @@ ghost use Rattle.std.specs.Prelude.{◌≡◌, ◌+◌, ◌<◌, ◌≤◌, ◌^
 ghost use Rattle.language.specs.Tokens.{same, starts, is};
 ghost use Rattle.console.specs.Arguments.{command_of, place_of, run_takes, exec_takes, takes_of, files_of, line, wrong as wrongOf, is_option, valued, filed, named, see_of, ended, said};
 
-#[derive(Drop)]
+#[derive(Clone, Copy)]
 pub enum Command {
     Help,
     Check,
@@ -51,7 +51,7 @@ pub const NO_FILE: u32 = 5;
 pub const INPUT_AND_BLOCK: u32 = 6;
 
 // The arguments so far: what is wrong, and at which argument; the option whose value comes next; how many files there were.
-#[derive(Drop)]
+#[derive(Clone, Copy)]
 pub struct Seen {
     pub problem: u32,
     pub at: usize,

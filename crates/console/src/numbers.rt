@@ -7,7 +7,7 @@ use emulator::memory::put_word;
 use word::arithmetic::neg;
 
 // The number that a word is; one that is larger than it may be; or none.
-#[derive(Drop)]
+#[derive(Clone, Copy)]
 pub enum Number {
     Is(u64),
     TooLarge,
@@ -35,7 +35,7 @@ pub const OUT_OF_RANGE: u32 = 5;
 pub const TOO_MANY: u32 = 6;
 
 // The reading so far: the magnitude of the number that is being read, and how many are read.
-#[derive(Drop)]
+#[derive(Clone, Copy)]
 pub struct Reading {
     pub phase: u32,
     pub value: u32,

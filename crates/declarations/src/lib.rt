@@ -9,35 +9,35 @@ pub mod functions; // functions: bodies and entries
 pub mod whole; // all of it
 
 // How many arrays, elements in all and functions are declared; or the place of a broken rule.
-#[derive(Drop)]
+#[derive(Clone, Copy)]
 pub enum Tally {
     All(u32, u32, u32),
     Broken(u32),
 }
 
 // The number of `main`, or the place of a broken rule.
-#[derive(Drop)]
+#[derive(Clone, Copy)]
 pub enum Start {
     Function(u32),
     Broken(usize),
 }
 
 // The rules are kept, or the place of a broken one.
-#[derive(Drop)]
+#[derive(Clone, Copy)]
 pub enum Rule {
     Kept,
     Broken(u32),
 }
 
 // How many words of the core there are up to here and how many functions; or the place of a broken rule.
-#[derive(Drop)]
+#[derive(Clone, Copy)]
 pub enum Reached {
     At(usize, usize),
     Broken(u32),
 }
 
 // How many words the core program has, or the place of a broken rule.
-#[derive(Drop)]
+#[derive(Clone, Copy)]
 pub enum Elaborated {
     Kept(usize),
     Broken(usize),

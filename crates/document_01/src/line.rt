@@ -2,14 +2,14 @@
 ghost use Rattle.std.specs.Prelude.{◌+◌, ◌<◌, ◌≤◌, ◌^◌, length};
 
 // What was read: a number, and where its line goes on.
-#[derive(Drop)]
+#[derive(Clone, Copy)]
 pub struct Read {
     pub value: u64,
     pub next: usize,
 }
 
 // Where the line goes on, the next free byte of the text, and the byte from which copies are made.
-#[derive(Drop)]
+#[derive(Clone, Copy)]
 pub struct Place {
     pub next: usize,
     pub at: usize,

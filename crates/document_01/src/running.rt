@@ -7,7 +7,7 @@ use toolchain::interpret::Interpreted;
 
 // What a line asks: which buffers of working room are a word short, the fuel, the log's room, the words of log and of arrays that are lent, the bytes of the
 // input block; and where the bytes of the block and of the text begin.
-#[derive(Drop)]
+#[derive(Clone, Copy)]
 pub struct Asked {
     pub short: u64,
     pub fuel: u64,

@@ -4,7 +4,7 @@ ghost use Rattle.std.specs.Prelude.{◌<◌, ◌≤◌, length};
 use word::bytes::{byte0, byte1, byte2, byte3};
 
 // What was read: a number, and where its line goes on.
-#[derive(Drop)]
+#[derive(Clone, Copy)]
 pub struct Read {
     pub value: u64,
     pub next: usize,

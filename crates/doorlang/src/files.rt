@@ -7,7 +7,7 @@ use console::numbers::Reading;
 use console::{arguments, numbers};
 
 // How many bytes stand at the start of a buffer, or that they could not be read.
-#[derive(Drop)]
+#[derive(Clone, Copy)]
 pub struct Got {
     pub failed: bool,
     pub size: usize,
@@ -179,7 +179,7 @@ pub fn read_block(given: &[usize], block: &mut [u8]) -> Got
 }
 
 // How many bytes stand in the buffers of the first file and of the input block, or that they could not be read.
-#[derive(Drop)]
+#[derive(Clone, Copy)]
 pub struct Both {
     pub failed: bool,
     pub first: usize,

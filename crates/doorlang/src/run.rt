@@ -69,7 +69,7 @@ fn show(given: &[usize], r: Ran, fuel: u64, size: usize, arrays: &[u32], log: &[
 }
 
 // What `interpret` answered, and the size of the input block that it was given.
-#[derive(Drop)]
+#[derive(Clone, Copy)]
 pub struct Answered {
     pub said: Interpreted,
     pub size: usize,

@@ -16,7 +16,7 @@ pub const LIMIT: u64 = 100000000;
 pub const MOST: u64 = 18446744073709551615;
 
 // A number, or that there is none.
-#[derive(Drop)]
+#[derive(Clone, Copy)]
 struct Value {
     failed: bool,
     number: u64,
@@ -76,7 +76,7 @@ fn value_of(given: &[usize], place: usize, usual: u64, most: u64) -> Value {
 }
 
 // The room of the log, and the most that a run may use of something: fuel or steps.
-#[derive(Drop)]
+#[derive(Clone, Copy)]
 pub struct Values {
     pub failed: bool,
     pub room: usize,

@@ -55,6 +55,7 @@ pub data Each {A : Type 0} (P : A → Type 0) : List A → Type 0 where
 pub each_in : {A : Type 0} {P : A → Type 0} {a : A} {xs : List A} → Each P xs → In a xs → P a
 each_in {P} (Each.more h hs) (In.here e) = subst P (sym e) h
 each_in (Each.more h hs) (In.there i) = each_in hs i
+each_in {A = A} {P = P} {a = a} none x3 = elim x3 [ ]
 
 pub each_at : {A : Type 0} {P : A → Type 0} {xs : List A} (d : A) → P d → Each P xs → (i : ℕ) → P (get_or xs i d)
 each_at d h Each.none i = h

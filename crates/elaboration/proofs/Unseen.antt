@@ -144,12 +144,15 @@ module _ (functions : List Function) (room : ℕ) (call call' : ℕ → List ℕ
 below_bound : (n x : ℕ) → In x (below n) → x < n
 below_bound (suc n) x (In.here e) = omega arith
 below_bound (suc n) x (In.there i) = omega (arith, below_bound n x i)
+below_bound zero x x3 = elim x3 [ ]
 
 -- The end of a run looks at no value.
 ended_alike : {written : List ℕ} (r r' : Result ℕ) → Alike Any written (bind r (λ _. value next)) (bind r' (λ _. value next)) → ended r ≡ ended r'
 unfolding bind
 ended_alike (goes v ls w) (goes v' ls' w') (Alike.go p h) = refl
 ended_alike (stops o w) (stops o' w') Alike.stop = refl
+ended_alike {written = written} (goes v ls w) (stops o' w') x'' = elim x'' [ ]
+ended_alike {written = written} (stops o w) (goes v' ls' w') x3 = elim x3 [ ]
 
 module _ (choices : Choices) (room : ℕ) where
   -- the frames of a call: its arguments are what is written

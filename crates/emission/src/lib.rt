@@ -14,7 +14,7 @@ pub mod functions; // functions and statements, but for their expressions
 pub mod image; // the image
 
 // Where a value is: nowhere yet, in a local's word, in a temporary.
-#[derive(Drop)]
+#[derive(Clone, Copy)]
 pub enum Place {
     Constant(u32),
     Local(u32),
@@ -22,7 +22,7 @@ pub enum Place {
 }
 
 // What an operator is as a value (codegen's Work): one instruction, one behind a test of the divisor, 1 or 0 by a branch. The sides may be exchanged.
-#[derive(Drop)]
+#[derive(Clone, Copy)]
 pub enum Work {
     Plain(Alu, bool),
     Divided(Alu),
@@ -30,14 +30,14 @@ pub enum Work {
 }
 
 // The one branch that an operator is as a condition, if it is one.
-#[derive(Drop)]
+#[derive(Clone, Copy)]
 pub enum Relation {
     One(Cond, bool),
     None,
 }
 
 // The one instruction with an immediate that an operator is, if it is one.
-#[derive(Drop)]
+#[derive(Clone, Copy)]
 pub enum Immediate {
     With(Alu, u32),
     None,

@@ -15,7 +15,7 @@ use processor::{Instr, Status, Width};
 use word::arithmetic::add;
 
 // Where an instruction leaves the run: its pc, how many words the log has, and whether it goes on.
-#[derive(Drop)]
+#[derive(Clone, Copy)]
 pub struct After {
     pub pc: u32,
     pub logged: usize,

@@ -142,7 +142,7 @@ pub fn counted(s: Status) -> u64
 }
 
 // Where a run ended: its pc, how many words the log has, its steps, and how it stopped.
-#[derive(Drop)]
+#[derive(Clone, Copy)]
 pub struct Ended {
     pub pc: u32,
     pub logged: usize,

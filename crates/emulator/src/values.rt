@@ -15,7 +15,7 @@ use word::order::{bit_of, less_signed, less_unsigned};
 use word::product::{upper_mixed, upper_signed, upper_unsigned};
 
 // A value, or none where the table has no such row.
-#[derive(Drop)]
+#[derive(Clone, Copy)]
 pub enum Value {
     Is(u32),
     None,

@@ -145,6 +145,7 @@ module _ (tok : ℕ → Option Placed) where
   unfolding unaries sign_kind
   begins_sign s o k (In.here q) e = let r : k ≡ 10 = e ∙ ap (λ (x : Sign × Unary). sign_kind x.0) q in record { there = omega arith; unclosed = λ w. omega arith; unended = λ w. omega arith }
   begins_sign s o k (In.there (In.here q)) e = let r : k ≡ 17 = e ∙ ap (λ (x : Sign × Unary). sign_kind x.0) q in record { there = omega arith; unclosed = λ w. omega arith; unended = λ w. omega arith }
+  begins_sign s o k (there (there x9)) e = elim x9 [ ]
 
   begins_kind : (k n : ℕ) → k ≡ n → Begins n → Begins k
   begins_kind k n e h = subst Begins (sym e) h
@@ -236,6 +237,7 @@ module _ (tok : ℕ → Option Placed) where
     unfolding primary_of unary_of sign_kind word_kind unaries
     c_unary {s = s} {o = o} {p = p} h (In.here q) z x = let e : kind tok i ≡ 10 = at_sign h ∙ ap (λ (x : Sign × Unary). sign_kind x.0) q in let f : o ≡ Unary.negate = ap (λ (x : Sign × Unary). x.1) q in rw (e, lt-ltb d most_open z, x, f, at_place h)
     c_unary {s = s} {o = o} {p = p} h (In.there (In.here q)) z x = let e : kind tok i ≡ 17 = at_sign h ∙ ap (λ (x : Sign × Unary). sign_kind x.0) q in let f : o ≡ Unary.not = ap (λ (x : Sign × Unary). x.1) q in rw (e, lt-ltb d most_open z, x, f, at_place h)
+    c_unary {j = j} {s = s} {o = o} {p = p} {a = a} h (there (there x18)) z x = elim x18 [ ]
 
   module _ (sub : ℕ → ℕ → ℕ → Out Expr) (l d i : ℕ) where
     c_done : (n : ℕ) → level_of (kind tok i) < l → rest_of tok sub n l d i ≡ ok Tail.done i

@@ -234,6 +234,7 @@ EachRow P (r ∷ rs) = P r × EachRow P rs
 each_in : (P : Operator → Type 0) (r : Operator) (rs : List Operator) → EachRow P rs → In r rs → P r
 each_in P r (x ∷ rs) h (In.here e) = subst P (sym e) h.0
 each_in P r (x ∷ rs) h (In.there i) = each_in P r rs h.1 i
+each_in P r [] h x'' = elim x'' [ ]
 
 abbrev Found : Operator → Type 0
 Found r = (level_of (sign_kind r.spelt) ≡ r.level) × (means_of (sign_kind r.spelt) ≡ r.means)

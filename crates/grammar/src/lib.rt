@@ -14,14 +14,14 @@ mod statements; // block, statement
 mod program; // program, array, function, param
 
 // How far it went: the next token, the next free word, and a number that the thing tells. Or the token at fault.
-#[derive(Drop)]
+#[derive(Clone, Copy)]
 pub enum Got {
     Done(usize, usize, usize),
     Fault(usize),
 }
 
 // What `parse` answers: so many arrays and functions, in so many words; the text is unreadable, with the place of the fault; a room is too short.
-#[derive(Drop)]
+#[derive(Clone, Copy)]
 pub enum Parsed {
     Tree(usize, usize),
     Unreadable(usize),

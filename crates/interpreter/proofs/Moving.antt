@@ -7,7 +7,8 @@ use native.Mathlib.Omega.{arith}
 use lib.ListN.{length, get_or, take, drop, set, get_or-eq_default}
 use lib.Seq.{get_or-take, get_or-set_same, get_or-set_other, take-set-le}
 use borrow.Author.Tests.{lt-ltb, le-ltb}
-use types.Run.{OneOf, miss}
+use types.Run.{miss}
+use borrow.Enum.Refused.{Among, opened}
 use denote.Enum.Declared.{tag_of}
 use Rattle.language.specs.Core.{Array}
 use Rattle.language.specs.Meaning.{World, Result, Act, bind, read, fetch, index_outside}
@@ -86,8 +87,8 @@ Stops (Trapped n) = Unit {0}
 Stops OutOfFuel = Unit {0}
 
 -- the other way of a `let .. else`
-pub stopped : (o : Out) → OneOf (1 ∷ 2 ∷ []) (tag_of Out.the_type o) → Stops o
-stopped (Goes v) h = absurd (miss (1 ∷ 2 ∷ []) 0 tt h)
+pub stopped : (o : Out) → Among (1 ∷ 2 ∷ []) (tag_of Out.the_type o) → Stops o
+stopped (Goes v) h = absurd (miss (1 ∷ 2 ∷ []) 0 tt (opened h))
 stopped (Trapped v) h = tt
 stopped OutOfFuel h = tt
 

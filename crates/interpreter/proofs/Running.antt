@@ -9,6 +9,7 @@ use lib.ListN.{length, get_or, take, drop, set, replicate, length-drop, get_or-e
 use lib.Seq.{drop-drop, take-suc, get_or-drop, take_all, length-take-le, get_or-take, take-take, take_at}
 use borrow.Author.Tests.{lt-ltb, le-ltb, le-leb, lt-leb, ltb-true, ltb-false, eq-eqb, ne_eqb}
 use types.Run.{OneOf, miss}
+use borrow.Enum.Refused.{Among, opened}
 use denote.Enum.Declared.{tag_of}
 use Rattle.word.specs.Choice.{pick}
 use Rattle.language.specs.Rules.{most_locals_lem}
@@ -51,8 +52,8 @@ Leaves (F.Returned v) = Unit {0}
 Leaves (F.Trapped n) = Unit {0}
 Leaves F.OutOfFuel = Unit {0}
 
-pub leaves : (fl : D.Flow) → OneOf (1 ∷ 2 ∷ 3 ∷ []) (tag_of FlowProofs.the_type fl) → Leaves fl
-leaves F.Next h = absurd (miss (1 ∷ 2 ∷ 3 ∷ []) 0 tt h)
+pub leaves : (fl : D.Flow) → Among (1 ∷ 2 ∷ 3 ∷ []) (tag_of FlowProofs.the_type fl) → Leaves fl
+leaves F.Next h = absurd (miss (1 ∷ 2 ∷ 3 ∷ []) 0 tt (opened h))
 leaves (F.Returned v) h = tt
 leaves (F.Trapped n) h = tt
 leaves F.OutOfFuel h = tt

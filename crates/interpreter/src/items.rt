@@ -11,7 +11,7 @@ use crate::words::word;
 use flat::{item, trap};
 
 // What an item leaves: how far it came, how many items are skipped, how many operands there are.
-#[derive(Drop)]
+#[derive(Clone, Copy)]
 pub struct Move {
     pub out: Out,
     pub skip: u32,

@@ -21,7 +21,7 @@ pub mod walk; // expressions, statements, blocks and calls
 pub const WORKING_ROOM: usize = 24832;
 
 // How far an expression or a call came: it goes on with a value, or it has stopped.
-#[derive(Drop)]
+#[derive(Clone, Copy)]
 pub enum Out {
     Goes(u32),
     Trapped(u32),
@@ -29,7 +29,7 @@ pub enum Out {
 }
 
 // Where a statement leads: on to the next one, out of the function, or nowhere.
-#[derive(Drop)]
+#[derive(Clone, Copy)]
 pub enum Flow {
     Next,
     Returned(u32),
@@ -38,7 +38,7 @@ pub enum Flow {
 }
 
 // "Outcomes: finished, trapped with a number, out of fuel".
-#[derive(Drop)]
+#[derive(Clone, Copy)]
 pub enum Outcome {
     Finished,
     Trapped(u32),
@@ -46,14 +46,14 @@ pub enum Outcome {
 }
 
 // n items or statements, whose words begin at p.
-#[derive(Drop)]
+#[derive(Clone, Copy)]
 pub struct Span {
     pub p: usize,
     pub n: u32,
 }
 
 // What bounds an activation: how many more may be made, how many locals it has, and how much of the log may be used.
-#[derive(Drop)]
+#[derive(Clone, Copy)]
 pub struct Bounds {
     pub left: u32,
     pub locals: usize,
@@ -61,28 +61,28 @@ pub struct Bounds {
 }
 
 // The fuel that is left, and how many words are logged.
-#[derive(Drop)]
+#[derive(Clone, Copy)]
 pub struct Meter {
     pub fuel: u64,
     pub logged: usize,
 }
 
 // How far an expression or a call came, and the meter then.
-#[derive(Drop)]
+#[derive(Clone, Copy)]
 pub struct Value {
     pub out: Out,
     pub meter: Meter,
 }
 
 // Where a statement or a block leads, and the meter then.
-#[derive(Drop)]
+#[derive(Clone, Copy)]
 pub struct Done {
     pub flow: Flow,
     pub meter: Meter,
 }
 
 // A run's outcome, the fuel that is left and how many words are logged.
-#[derive(Drop)]
+#[derive(Clone, Copy)]
 pub struct Ran {
     pub outcome: Outcome,
     pub fuel: u64,

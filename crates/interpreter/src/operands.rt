@@ -8,7 +8,7 @@ use crate::words::word;
 use flat::{item, trap};
 
 // What a push leaves: how far it came, and how many operands there are.
-#[derive(Drop)]
+#[derive(Clone, Copy)]
 pub struct Pushed {
     pub out: Out,
     pub h: usize,

@@ -11,7 +11,7 @@ use crate::words::{field, onward};
 use flat::{item, statement};
 
 // An item's words.
-#[derive(Drop)]
+#[derive(Clone, Copy)]
 pub struct Item {
     pub kind: u32,
     pub charge: u32,

@@ -102,7 +102,7 @@ pub fn result(flow: Flow) -> Out
 }
 
 // What the words say of a function.
-#[derive(Drop)]
+#[derive(Clone, Copy)]
 pub struct Head {
     pub body: Span,
     pub lets: u32,

@@ -19,7 +19,7 @@ use crate::{Bounds, Done, Flow, Meter, Out, Span, Value, parts, state};
 use flat::{item, program, statement, trap};
 
 // How far a call within an expression came, the operands after it, and the meter then.
-#[derive(Drop)]
+#[derive(Clone, Copy)]
 pub struct Entered {
     pub out: Out,
     pub h: usize,
@@ -27,7 +27,7 @@ pub struct Entered {
 }
 
 // How far an item came, the items that are left, the operands after it, and the meter then.
-#[derive(Drop)]
+#[derive(Clone, Copy)]
 pub struct Step {
     pub out: Out,
     pub at: Span,

@@ -14,7 +14,7 @@ pub mod rows; // the rows of the table of instructions
 pub mod formats; // the words of the formats
 
 // What two operands give (document 03 §3). Op takes two registers, OpImm a register and an immediate, Shift a register and an amount.
-#[derive(Drop)]
+#[derive(Clone, Copy)]
 pub enum Alu {
     Add,
     Sub,
@@ -37,7 +37,7 @@ pub enum Alu {
 }
 
 // When a branch is taken: equal, not equal, less, not less; the last two unsigned.
-#[derive(Drop)]
+#[derive(Clone, Copy)]
 pub enum Cond {
     Eq,
     Ne,
@@ -48,7 +48,7 @@ pub enum Cond {
 }
 
 // What a load or a store moves: a byte, a half, a word; the last two are loads that don't extend the sign.
-#[derive(Drop)]
+#[derive(Clone, Copy)]
 pub enum Width {
     Byte,
     Half,
@@ -59,7 +59,7 @@ pub enum Width {
 
 // An instruction. Fields stand in the order rd, rs1, rs2, immediate, those that its format has; an immediate is sign-extended to 32 bits.
 // A fence keeps the bits that it doesn't use, so that its word can be told from it.
-#[derive(Drop)]
+#[derive(Clone, Copy)]
 pub enum Instr {
     Lui(u32, u32),
     Auipc(u32, u32),
@@ -78,7 +78,7 @@ pub enum Instr {
 }
 
 // Whether a run goes on, or how it stopped (document 03 §4).
-#[derive(Drop)]
+#[derive(Clone, Copy)]
 pub enum Status {
     Going,
     Exit,

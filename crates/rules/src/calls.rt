@@ -32,7 +32,7 @@ pub fn first_start(types: &[u32], starts: &[u32], h: usize, n: u32, here: u32) -
 }
 
 // A function: where its header stands in the tree, and its number; or there is none.
-#[derive(Drop)]
+#[derive(Clone, Copy)]
 pub struct Callee {
     pub ok: bool,
     pub header: u32,

@@ -8,7 +8,7 @@ use crate::names::word;
 
 // A header in the tree: its kind, the place where the statement is reported, its name's length or how many words its first block has, how many
 // items its first and its second expression have, how many statements its body and its other block, and how many words follow the header.
-#[derive(Drop)]
+#[derive(Clone, Copy)]
 pub struct Head {
     pub kind: u32,
     pub at: u32,

@@ -18,7 +18,7 @@ pub mod endings; // whether a block ends in return
 
 // Where an expression, a statement or a block is read: the words of the tree and of the core from which it stands on; and document 01's scope there:
 // how many globals and how many visible locals the tables have, how many parameters and lets there were, and the function's result type.
-#[derive(Drop)]
+#[derive(Clone, Copy)]
 pub struct Spot {
     pub tree: usize,
     pub core: usize,
@@ -29,28 +29,28 @@ pub struct Spot {
 }
 
 // What a part of the tree gives: a number, or the place of a broken rule.
-#[derive(Drop)]
+#[derive(Clone, Copy)]
 pub enum Out {
     Done(usize),
     Broken(u32),
 }
 
 // What an expression gives: its type, or the place of a broken rule.
-#[derive(Drop)]
+#[derive(Clone, Copy)]
 pub enum Given {
     Type(u32),
     Broken(u32),
 }
 
 // What a statement gives: how many locals are visible after it, and how many parameters and lets there were; or the place of a broken rule.
-#[derive(Drop)]
+#[derive(Clone, Copy)]
 pub enum Step {
     Next(usize, u32),
     Broken(u32),
 }
 
 // What a block gives: how many parameters and lets there were; or the place of a broken rule.
-#[derive(Drop)]
+#[derive(Clone, Copy)]
 pub enum Counted {
     Count(u32),
     Broken(u32),

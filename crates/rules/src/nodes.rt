@@ -26,7 +26,7 @@ const TYPED: u32 = 2;
 const TESTS: u32 = 6;
 
 // An item of the tree: its kind, its place, two words that the kind has a use for, and where the core's item goes, counted from the expression's first.
-#[derive(Drop)]
+#[derive(Clone, Copy)]
 pub struct TreeItem {
     pub kind: u32,
     pub place: u32,
@@ -54,7 +54,7 @@ pub fn item_at(tree: &[u32], p: usize, here: u32) -> TreeItem
 }
 
 // If the rules are kept: how many operands it takes, the type and start of the one that it gives, how many nodes begin there, and its item.
-#[derive(Drop)]
+#[derive(Clone, Copy)]
 pub struct Made {
     pub ok: bool,
     pub takes: u32,

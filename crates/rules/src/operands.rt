@@ -7,7 +7,7 @@ use crate::names::word;
 use word::arithmetic::add;
 
 // An operand, as two words.
-#[derive(Drop)]
+#[derive(Clone, Copy)]
 pub struct Operand {
     pub ty: u32,
     pub start: u32,

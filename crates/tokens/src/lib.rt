@@ -25,7 +25,7 @@ pub const TOKEN_WORDS: usize = 3;
 pub const TOKEN_ROOM: usize = TOKEN_WORDS * LONGEST_TEXT;
 
 // What `tokens` answers: so many tokens stand in the room; the text is unreadable, with the place of the fault; the room is too short.
-#[derive(Drop)]
+#[derive(Clone, Copy)]
 pub enum Outcome {
     Read(usize),
     Refused(usize),
@@ -33,7 +33,7 @@ pub enum Outcome {
 }
 
 // What stands at a byte: a token with its kind, its value and its number of bytes; or no token.
-#[derive(Drop)]
+#[derive(Clone, Copy)]
 pub enum Seen {
     Token(u32, u32, usize),
     Fault,

@@ -11,7 +11,7 @@ use grammar::{Parsed, parse};
 use interpreter::words::field;
 
 // A program of so many words stands in the core's buffer; or the text is refused, with a number and a place.
-#[derive(Drop)]
+#[derive(Clone, Copy)]
 pub enum Accepting {
     Program(usize),
     Refused(u32, usize),

@@ -5,7 +5,7 @@ use crate::accept::{Accepting, accept, elements};
 use crate::work::lacking;
 
 // The answer's number, the place in the text that a refusal carries, and how many elements the arrays of an accepted text have together.
-#[derive(Drop)]
+#[derive(Clone, Copy)]
 pub struct Answer {
     pub number: u32,
     pub place: usize,

@@ -8,7 +8,7 @@ use crate::accept::{Accepting, accept};
 use crate::work::lacking;
 
 // What `compile` answers: the number of a refusal and the place that it carries; or the image's length in bytes.
-#[derive(Drop)]
+#[derive(Clone, Copy)]
 pub enum Compiled {
     Refused(u32, usize),
     Image(usize),

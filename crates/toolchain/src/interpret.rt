@@ -12,7 +12,7 @@ use interpreter::run;
 use word::bytes::word_of;
 
 // What `interpret` answers: the number of a refusal and the place that it carries; or how the run ended.
-#[derive(Drop)]
+#[derive(Clone, Copy)]
 pub enum Interpreted {
     Refused(u32, usize),
     Ran(interpreter::Ran),

@@ -18,7 +18,7 @@ pub mod interpret; // document 01 §5: the run of a text
 pub mod compile; // the image of a text
 
 // What `emulate` and `resume` answer: the number of a refusal (document 03 §5), or where the run ended.
-#[derive(Drop)]
+#[derive(Clone, Copy)]
 pub enum Outcome {
     Refused(u32),
     Ran(Ended),

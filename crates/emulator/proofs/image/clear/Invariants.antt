@@ -1,0 +1,16 @@
+-- `clear` meets its contract: so far zeros, then what was there.
+use Rattle.processor.specs.Machine.{zeros}
+use borrow.Author.Fill.{fill_none, fill_more}
+use lib.Seq.{drop-length}
+use lib.ListN.{length, replicate, drop, length-set}
+use mathlib.Core.List.{◌++◌, append-nil}
+use Prim.Native.Nat.{◌-◌, ◌≤◌, ◌+◌}
+use mathlib.Core.Path.{◌≡◌, refl, sym, ◌∙◌, ap}
+use native.Mathlib.Omega.{arith}
+use Rattle.emulator.proofs.image.clear.Given as goal
+
+abbrev pub invariant-loop-i : goal.invariant-loop-i
+invariant-loop-i l = (length l.bytes ≡ length l.initial.bytes) × (l.i ≤ length l.initial.bytes) × (l.bytes ≡ replicate l.i 0 ++ drop l.i l.initial.bytes)
+
+abbrev pub decreases-loop-i : goal.decreases-loop-i
+decreases-loop-i l = length l.initial.bytes - l.i

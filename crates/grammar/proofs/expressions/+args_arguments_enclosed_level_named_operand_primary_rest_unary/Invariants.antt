@@ -1,0 +1,49 @@
+-- Expressions: each way through is a law of the parser; the measure counts the steps inwards that are left, and the calls of one step.
+use Prim.Native.Nat.{ℕ, ◌<◌, ◌+◌, ◌*◌, ◌-◌, ◌≤◌}
+use mathlib.Core.Path.{◌≡◌, refl, sym, ◌∙◌}
+use lib.ListN.{length}
+use Rattle.grammar.specs.Parse.{rest_of, exprs_of, levelled}
+use Rattle.grammar.specs.Told.{tail_form, args_form}
+use Rattle.grammar.proofs.Steps.{hit, miss, Going, begun, room, room_at, room_on, room_put, room_gap}
+use Rattle.grammar.proofs.ExprLaws.{level_out, level_prim, level_rest, level_bad, rest_stop, rest_end, rest_bad, rest_again, operand_bad, operand_strict, operand_lazy, args_out, args_bad, args_last, args_again, arguments_deep, arguments_none, arguments_bad, arguments_open, arguments_done, enclosed_deep, enclosed_bad, enclosed_open, enclosed_done, named_index, named_index_bad, named_call, named_call_bad, named_name, unary_deep, unary_bad, unary_done, primary_number, primary_name, primary_true, primary_false, primary_paren, primary_minus, primary_bang, primary_none, sign_there}
+use native.Mathlib.Omega.{arith}
+use Rattle.grammar.proofs.expressions.+args_arguments_enclosed_level_named_operand_primary_rest_unary.Given as goal
+
+abbrev pub decreases-args : goal.decreases-args
+decreases-args l = 8 * l.h + 1
+
+abbrev pub decreases-arguments : goal.decreases-arguments
+decreases-arguments l = 8 * l.h + 2
+
+abbrev pub decreases-enclosed : goal.decreases-enclosed
+decreases-enclosed l = 8 * l.h + 1
+
+abbrev pub decreases-level : goal.decreases-level
+decreases-level l = 8 * l.h
+
+abbrev pub decreases-named : goal.decreases-named
+decreases-named l = 8 * l.h + 3
+
+abbrev pub decreases-operand : goal.decreases-operand
+decreases-operand l = 8 * l.h + 1
+
+abbrev pub decreases-primary : goal.decreases-primary
+decreases-primary l = 8 * l.h + 4
+
+abbrev pub decreases-rest : goal.decreases-rest
+decreases-rest l = 8 * l.h + 2
+
+abbrev pub decreases-unary : goal.decreases-unary
+decreases-unary l = 8 * l.h + 1
+
+abbrev pub invariant-args-loop-left : goal.invariant-args-loop-left
+invariant-args-loop-left l = (Going args_form (λ tok. exprs_of tok (levelled tok l.h) 65536 l.d l.from) (λ tok. exprs_of tok (levelled tok l.h) l.left l.d l.i) l.ts l.n l.initial.out l.from l.start l.i l.at l.c l.out) × (l.c + l.left ≡ 65536) × (length l.out ≡ length l.initial.out)
+
+abbrev pub decreases-args-loop-left : goal.decreases-args-loop-left
+decreases-args-loop-left l = l.left
+
+abbrev pub invariant-rest-loop-left : goal.invariant-rest-loop-left
+invariant-rest-loop-left l = (Going tail_form (λ tok. rest_of tok (levelled tok l.h) l.most l.l l.d l.from) (λ tok. rest_of tok (levelled tok l.h) l.left l.l l.d l.i) l.ts l.n l.initial.out l.from l.start l.i l.at 0 l.out) × (length l.out ≡ length l.initial.out)
+
+abbrev pub decreases-rest-loop-left : goal.decreases-rest-loop-left
+decreases-rest-loop-left l = l.left

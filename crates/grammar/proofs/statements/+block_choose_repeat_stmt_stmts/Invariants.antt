@@ -1,0 +1,31 @@
+-- Statements and blocks: each way through is a law of the parser; the measure counts the blocks that may still nest.
+use Prim.Native.Nat.{ℕ, ◌<◌, ◌+◌, ◌*◌, ◌-◌, ◌≤◌}
+use mathlib.Core.Path.{◌≡◌, refl, sym, ◌∙◌}
+use lib.ListN.{length}
+use Rattle.grammar.specs.Parse.{stmts_of, block_of}
+use Rattle.grammar.specs.Told.{block_form}
+use Rattle.grammar.proofs.Steps.{hit, miss, Going, begun, room, room_at, room_on, room_put}
+use Rattle.grammar.proofs.StmtLaws.{room_go, block_out, block_closed, block_deep, block_bad, block_open, block_done, stmts_out, stmts_end, stmts_bad, stmts_again, stmt_change, stmt_declare, stmt_if, stmt_while, stmt_return, stmt_emit, stmt_none, while_bad, while_body_bad, while_done, if_bad, if_first_bad, if_when, if_second_bad, if_choose}
+use native.Mathlib.Omega.{arith}
+use Rattle.grammar.proofs.statements.+block_choose_repeat_stmt_stmts.Given as goal
+
+abbrev pub decreases-block : goal.decreases-block
+decreases-block l = 8 * l.h
+
+abbrev pub decreases-choose : goal.decreases-choose
+decreases-choose l = 8 * l.h + 1
+
+abbrev pub decreases-repeat : goal.decreases-repeat
+decreases-repeat l = 8 * l.h + 1
+
+abbrev pub decreases-stmt : goal.decreases-stmt
+decreases-stmt l = 8 * l.h + 2
+
+abbrev pub decreases-stmts : goal.decreases-stmts
+decreases-stmts l = 8 * l.h + 3
+
+abbrev pub invariant-stmts-loop-left : goal.invariant-stmts-loop-left
+invariant-stmts-loop-left l = (Going block_form (λ tok. stmts_of tok (block_of tok l.h) 65536 l.d l.from) (λ tok. stmts_of tok (block_of tok l.h) l.left l.d l.i) l.ts l.n l.initial.out l.from l.start l.i l.at l.c l.out) × (l.c + l.left ≡ 65536) × (length l.out ≡ length l.initial.out)
+
+abbrev pub decreases-stmts-loop-left : goal.decreases-stmts-loop-left
+decreases-stmts-loop-left l = l.left

@@ -1,0 +1,19 @@
+-- A block goes on statement by statement; the blocks of a choice stand behind its header, so that the words that are left grow fewer.
+use Prim.Native.Nat.{ℕ, ◌+◌, ◌*◌, ◌-◌, ◌<◌}
+use native.Mathlib.Omega.{arith}
+use lib.ListN.{length}
+use Rattle.rules.proofs.Looking.{denied, granted}
+use Rattle.rules.proofs.Ending as L
+use Rattle.rules.proofs.endings.+ends_in_return_returns.Given as goal
+
+abbrev pub decreases-ends_in_return : goal.decreases-ends_in_return
+decreases-ends_in_return l = 2 * (length l.tree.now - l.p) + 1
+
+abbrev pub decreases-returns : goal.decreases-returns
+decreases-returns l = 2 * (length l.tree.now - l.p)
+
+abbrev pub invariant-ends_in_return-loop-i : goal.invariant-ends_in_return-loop-i
+invariant-ends_in_return-loop-i l = L.Ending l.tree l.p l.n l.i l.at l.ends
+
+abbrev pub decreases-ends_in_return-loop-i : goal.decreases-ends_in_return-loop-i
+decreases-ends_in_return-loop-i l = l.n - l.i
