@@ -34,13 +34,13 @@ pub returns-then-b-eq0 : goal.returns-then-b-eq0
 returns-then-b-eq0 c = L.div_by_zero c.in-9.is c.if-b-eq0.true
 
 pub returns-else-b-eq0 : goal.returns-else-b-eq0
-returns-else-b-eq0 c = L.is_div c.in-9.is c.if-b-eq0.false c.quotient-Signed.ensures
+returns-else-b-eq0 c = L.is_div c.in-9.is c.if-b-eq0.false c.quotient_signed.ensures
 
 pub returns-then-b-eq0-2 : goal.returns-then-b-eq0-2
 returns-then-b-eq0-2 c = L.rem_by_zero c.in-10.is c.if-b-eq0-2.true
 
 pub returns-else-b-eq0-2 : goal.returns-else-b-eq0-2
-returns-else-b-eq0-2 c = L.is_rem c.in-10.is c.if-b-eq0-2.false c.remainder_Signed.ensures
+returns-else-b-eq0-2 c = L.is_rem c.in-10.is c.if-b-eq0-2.false c.remainder_signed.ensures
 
 pub returns-in_default : goal.returns-in_default
 returns-in_default c = L.no_strict (missed 11 _ c.in_default.in_default-own.rest)

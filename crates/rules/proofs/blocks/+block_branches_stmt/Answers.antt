@@ -166,10 +166,10 @@ pub stmt-shape_of-core-then-not-holds_blocks : goal.stmt-shape_of-core-then-not-
 stmt-shape_of-core-then-not-holds_blocks t c = c.simple.auto.core
 
 pub stmt-returns-then-not-holds_blocks : goal.stmt-returns-then-not-holds_blocks
-stmt-returns-then-not-holds_blocks t c = record { statement = c.simple.ensures.statement (sym c.holds_blocks.ensures ∙ denied _ c.if-not-holds_blocks.true); moves = c.simple.ensures.moves }
+stmt-returns-then-not-holds_blocks t c = record { statement = c.simple.ensures.statement (sym c.holds_blocks.ensures ∙ c.if-not-holds_blocks.true); moves = c.simple.ensures.moves }
 
 pub stmt-returns-then-head : goal.stmt-returns-then-head
-stmt-returns-then-head t c = record { statement = N.nest_short _ _ _ _ _ _ c.args.tree.now c.args.spot.tree _ _ c.requires.1 (sym c.holds_blocks.ensures ∙ granted _ c.if-not-holds_blocks.false) (omega (arith, c.if-head.true)); moves = M.stuck _ _ _ _ }
+stmt-returns-then-head t c = record { statement = N.nest_short _ _ _ _ _ _ c.args.tree.now c.args.spot.tree _ _ c.requires.1 (sym c.holds_blocks.ensures ∙ c.if-not-holds_blocks.false) (omega (arith, c.if-head.true)); moves = M.stuck _ _ _ _ }
 
 pub stmt-condition-c-requires : goal.stmt-condition-c-requires
 stmt-condition-c-requires t c = (header_room c.requires.0).after
@@ -187,7 +187,7 @@ pub stmt-shape_of-core-in-Broken : goal.stmt-shape_of-core-in-Broken
 stmt-shape_of-core-in-Broken t c = c.condition-c.auto.core
 
 pub stmt-returns-in-Broken : goal.stmt-returns-in-Broken
-stmt-returns-in-Broken t c = record { statement = N.test_fault _ _ _ _ _ _ c.args.tree.now c.args.spot.tree _ _ c.requires.1 (sym c.holds_blocks.ensures ∙ granted _ c.if-not-holds_blocks.false) c.condition-c.ensures c.in-Broken.is; moves = M.stuck _ _ _ _ }
+stmt-returns-in-Broken t c = record { statement = N.test_fault _ _ _ _ _ _ c.args.tree.now c.args.spot.tree _ _ c.requires.1 (sym c.holds_blocks.ensures ∙ c.if-not-holds_blocks.false) c.condition-c.ensures c.in-Broken.is; moves = M.stuck _ _ _ _ }
 
 pub stmt-branches-r-requires : goal.stmt-branches-r-requires
 stmt-branches-r-requires t c = (omega (arith, c.decreases), (stmt_on c.requires.0 c.condition-c.auto.types c.condition-c.auto.starts c.condition-c.auto.core, omega (arith, c.if-head.false)))
@@ -208,7 +208,7 @@ pub stmt-shape_of-core-in-Count : goal.stmt-shape_of-core-in-Count
 stmt-shape_of-core-in-Count t c = c.nest.auto.core ∙ (c.branches-r.auto.core ∙ c.condition-c.auto.core)
 
 pub stmt-returns-in-Count : goal.stmt-returns-in-Count
-stmt-returns-in-Count t c = record { statement = B.blocks_next _ _ _ _ _ _ c.args.tree.now c.args.spot.tree _ _ c.requires.1 (sym c.holds_blocks.ensures ∙ granted _ c.if-not-holds_blocks.false) c.condition-c.ensures c.in_default.is c.branches-r.ensures c.in-Count.is c.nest.ensures; moves = B.both_move c.branches-r.ensures c.in-Count.is }
+stmt-returns-in-Count t c = record { statement = B.blocks_next _ _ _ _ _ _ c.args.tree.now c.args.spot.tree _ _ c.requires.1 (sym c.holds_blocks.ensures ∙ c.if-not-holds_blocks.false) c.condition-c.ensures c.in_default.is c.branches-r.ensures c.in-Count.is c.nest.ensures; moves = B.both_move c.branches-r.ensures c.in-Count.is }
 
 pub stmt-shape_of-locals-in-Broken-r : goal.stmt-shape_of-locals-in-Broken-r
 stmt-shape_of-locals-in-Broken-r t c = c.branches-r.auto.locals
@@ -223,4 +223,4 @@ pub stmt-shape_of-core-in-Broken-r : goal.stmt-shape_of-core-in-Broken-r
 stmt-shape_of-core-in-Broken-r t c = c.branches-r.auto.core ∙ c.condition-c.auto.core
 
 pub stmt-returns-in-Broken-r : goal.stmt-returns-in-Broken-r
-stmt-returns-in-Broken-r t c = record { statement = B.blocks_fault _ _ _ _ _ _ c.args.tree.now c.args.spot.tree _ _ c.requires.1 (sym c.holds_blocks.ensures ∙ granted _ c.if-not-holds_blocks.false) c.condition-c.ensures c.in_default.is c.branches-r.ensures c.in-Broken-r.is; moves = B.stuck_moves c.branches-r.ensures _ }
+stmt-returns-in-Broken-r t c = record { statement = B.blocks_fault _ _ _ _ _ _ c.args.tree.now c.args.spot.tree _ _ c.requires.1 (sym c.holds_blocks.ensures ∙ c.if-not-holds_blocks.false) c.condition-c.ensures c.in_default.is c.branches-r.ensures c.in-Broken-r.is; moves = B.stuck_moves c.branches-r.ensures _ }

@@ -13,8 +13,8 @@ pub returns-then-m-n : goal.returns-then-m-n
 returns-then-m-n c = c.broken-then-m-n.ensures ∙ L.other_count _ _ _ _ _ _ _ _ _ _ c.if-h-n.false c.word-m.ensures c.if-m-n.true
 
 pub returns-then-not-same_types : goal.returns-then-not-same_types
-returns-then-not-same_types c = c.broken-then-not-same_types.ensures ∙ L.other_types _ _ _ _ _ _ _ _ _ _ c.if-h-n.false c.word-m.ensures c.if-m-n.false c.same_types.ensures (denied _ c.if-not-same_types.true)
+returns-then-not-same_types c = c.broken-then-not-same_types.ensures ∙ L.other_types _ _ _ _ _ _ _ _ _ _ c.if-h-n.false c.word-m.ensures c.if-m-n.false c.same_types.ensures c.if-not-same_types.true
 
 pub returns : goal.returns
 unfolding made
-returns c = L.call_fine _ _ _ _ _ _ _ _ _ _ c.if-h-n.false c.word-m.ensures c.if-m-n.false c.same_types.ensures c.first_start-start.ensures (granted _ c.if-not-same_types.false)
+returns c = L.call_fine _ _ _ _ _ _ _ _ _ _ c.if-h-n.false c.word-m.ensures c.if-m-n.false c.same_types.ensures c.first_start-start.ensures c.if-not-same_types.false

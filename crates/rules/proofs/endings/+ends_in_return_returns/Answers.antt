@@ -52,7 +52,7 @@ pub returns-ends_in_return-requires : goal.returns-ends_in_return-requires
 returns-ends_in_return-requires t c = (omega (arith, c.decreases, c.requires.1, c.if-head-b.false), (c.requires.0, omega (arith, c.requires.0, c.requires.1, c.if-head-b.false)))
 
 pub returns-returns-then-not-ends_in_return : goal.returns-returns-then-not-ends_in_return
-returns-returns-then-not-ends_in_return t c = L.choice_no c.args.tree.now c.args.p c.requires.2 c.in-2.is c.ends_in_return.ensures (denied _ c.if-not-ends_in_return.true)
+returns-returns-then-not-ends_in_return t c = L.choice_no c.args.tree.now c.args.p c.requires.2 c.in-2.is c.ends_in_return.ensures c.if-not-ends_in_return.true
 
 pub returns-overflow_add-p-in-2 : goal.returns-overflow_add-p-in-2
 returns-overflow_add-p-in-2 t c = omega (arith, c.requires.0, c.requires.1, c.if-head-b.false)
@@ -67,7 +67,7 @@ pub returns-returns-in-5 : goal.returns-returns-in-5
 returns-returns-in-5 t c = L.gives_so c.args.tree.now c.args.p c.requires.2 c.in-5.is
 
 pub returns-returns-else-not-ends_in_return : goal.returns-returns-else-not-ends_in_return
-returns-returns-else-not-ends_in_return t c = L.choice_both c.args.tree.now c.args.p c.requires.2 c.in-2.is c.ends_in_return.ensures (granted _ c.if-not-ends_in_return.false) c.ends_in_return-in-2.ensures
+returns-returns-else-not-ends_in_return t c = L.choice_both c.args.tree.now c.args.p c.requires.2 c.in-2.is c.ends_in_return.ensures c.if-not-ends_in_return.false c.ends_in_return-in-2.ensures
 
 pub returns-returns-in_default : goal.returns-returns-in_default
 returns-returns-in_default t c = L.never c.args.tree.now c.args.p c.requires.2 c.in_default.in_default-own.rest.0.0.1 c.in_default.in_default-own.rest.0.1 c.in_default.in_default-own.rest.1

@@ -14,8 +14,8 @@ returns-then-word-ne-ARRAY c = c.broken-then-word-ne-ARRAY.ensures ∙ L.no_arra
 
 pub returns-then-not-same_type : goal.returns-then-not-same_type
 unfolding type_of
-returns-then-not-same_type c = c.broken-then-not-same_type.ensures ∙ L.no_index _ _ _ c.find_global-i.ensures c.if-i-eq0.false c.word-header.ensures c.word.ensures c.if-word-ne-ARRAY.false c.same_type.ensures (denied _ c.if-not-same_type.true)
+returns-then-not-same_type c = c.broken-then-not-same_type.ensures ∙ L.no_index _ _ _ c.find_global-i.ensures c.if-i-eq0.false c.word-header.ensures c.word.ensures c.if-word-ne-ARRAY.false c.same_type.ensures c.if-not-same_type.true
 
 pub returns : goal.returns
 unfolding type_of made
-returns c = L.array_some _ _ _ c.find_global-i.ensures c.if-i-eq0.false c.word-header.ensures c.word.ensures c.if-word-ne-ARRAY.false c.same_type.ensures (granted _ c.if-not-same_type.false) c.word-offset.ensures c.word-size.ensures
+returns c = L.array_some _ _ _ c.find_global-i.ensures c.if-i-eq0.false c.word-header.ensures c.word.ensures c.if-word-ne-ARRAY.false c.same_type.ensures c.if-not-same_type.false c.word-offset.ensures c.word-size.ensures

@@ -40,7 +40,7 @@ pub shape_of-core-then-not-same_type : goal.shape_of-core-then-not-same_type
 shape_of-core-then-not-same_type c = c.second_expression-e.auto.core ∙ c.first_expression-i.auto.core
 
 pub returns-then-not-same_type : goal.returns-then-not-same_type
-returns-then-not-same_type c = record { states_two = L.value_wrong _ _ _ _ _ _ _ _ _ _ _ c.first_expression-i.ensures c.in-Type.is c.second_expression-e.ensures (sym (drop-drop (4 * c.args.head.first) (c.args.spot.tree + 8) c.args.tree.now)) c.in-Type-e.is c.same_type.ensures (denied _ c.if-not-same_type.true); moves = M.stuck _ _ _ _ }
+returns-then-not-same_type c = record { states_two = L.value_wrong _ _ _ _ _ _ _ _ _ _ _ c.first_expression-i.ensures c.in-Type.is c.second_expression-e.ensures (sym (drop-drop (4 * c.args.head.first) (c.args.spot.tree + 8) c.args.tree.now)) c.in-Type-e.is c.same_type.ensures c.if-not-same_type.true; moves = M.stuck _ _ _ _ }
 
 pub header_of_two-requires : goal.header_of_two-requires
 header_of_two-requires c = omega (arith, (header_room c.requires).header, c.first_expression-i.auto.core, c.second_expression-e.auto.core)
@@ -55,7 +55,7 @@ pub shape_of-core-else-not-same_type : goal.shape_of-core-else-not-same_type
 shape_of-core-else-not-same_type c = c.header_of_two.auto.core ∙ (c.second_expression-e.auto.core ∙ c.first_expression-i.auto.core)
 
 pub returns-else-not-same_type : goal.returns-else-not-same_type
-returns-else-not-same_type c = record { states_two = L.store_next _ _ _ _ _ _ _ _ _ _ _ c.first_expression-i.ensures c.in-Type.is c.second_expression-e.ensures (sym (drop-drop (4 * c.args.head.first) (c.args.spot.tree + 8) c.args.tree.now)) c.in-Type-e.is _ _ _ _ _ _ _ _ c.element-a.ensures (granted _ c.if-not-a.false) c.same_type.ensures (granted _ c.if-not-same_type.false) c.header_of_two.ensures; moves = M.stays _ _ _ }
+returns-else-not-same_type c = record { states_two = L.store_next _ _ _ _ _ _ _ _ _ _ _ c.first_expression-i.ensures c.in-Type.is c.second_expression-e.ensures (sym (drop-drop (4 * c.args.head.first) (c.args.spot.tree + 8) c.args.tree.now)) c.in-Type-e.is _ _ _ _ _ _ _ _ c.element-a.ensures (granted _ c.if-not-a.false) c.same_type.ensures c.if-not-same_type.false c.header_of_two.ensures; moves = M.stays _ _ _ }
 
 pub shape_of-types-in-Broken-e : goal.shape_of-types-in-Broken-e
 shape_of-types-in-Broken-e c = c.second_expression-e.auto.types ∙ c.first_expression-i.auto.types

@@ -1,0 +1,13 @@
+-- Function by function, each behind the one before it.
+use Prim.Native.Nat.{◌≤◌, ◌-◌}
+use mathlib.Core.Path.{◌≡◌, refl}
+use native.Mathlib.Omega.{arith}
+use lib.ListN.{length, length-set}
+use Rattle.compiler.proofs.Layouts.{Laying, laying_start, laying_past, laying_next, laying_long, laying_end}
+use Rattle.compiler.proofs.programs.layout.Given as goal
+
+abbrev pub invariant-loop-f : goal.invariant-loop-f
+invariant-loop-f l = Laying l.words l.entries l.n l.f l.p × (l.p ≤ 131072) × (l.f ≤ length l.entries) × (length l.entries ≡ length l.initial.entries) × (length l.scratch ≡ length l.initial.scratch)
+
+abbrev pub decreases-loop-f : goal.decreases-loop-f
+decreases-loop-f l = length l.entries - l.f

@@ -1,0 +1,11 @@
+-- The last of them first; the measure is how many.
+use Prim.Native.Nat.{◌-◌, ℕ, ◌<◌}
+use native.Mathlib.Omega.{arith}
+use Rattle.emission.proofs.Calling.{loads_none, loads_more}
+use Rattle.emission.proofs.calls.+loads.Goals as goal
+
+pub returns-then-n-eq0 : goal.returns-then-n-eq0
+returns-then-n-eq0 t c = record { emits = loads_none c.if-n-eq0.true; within = omega arith }
+
+pub returns : goal.returns
+returns t c = record { emits = loads_more (c.args.n - 1) (omega arith) c.load-last.ensures.emits_at c.loads.ensures.emits; within = omega arith }

@@ -1,0 +1,39 @@
+-- So far the first words, then what was there.
+use Prim.Native.Nat.{ℕ, ◌+◌, ◌*◌, ◌-◌, ◌≤◌}
+use mathlib.Core.Path.{◌≡◌, refl, ◌∙◌, ap}
+use mathlib.Core.List.{List, ◌++◌}
+use lib.ListN.{length, take, drop, get_or}
+use lib.Seq.{sets, length-sets}
+use Rattle.word.specs.Bytes.{bytes_of, bytes_of_words}
+use Rattle.emission.proofs.Wordwise.{bytes_none, bytes_more}
+use native.Mathlib.Omega.{arith}
+use Rattle.emission.proofs.image.bytes.Goals as goal
+
+pub loop-i-init : goal.loop-i-init
+loop-i-init c = (refl, omega arith, bytes_none c.args.words.now c.args.image.now)
+
+pub offset_bounds-words-i : goal.offset_bounds-words-i
+offset_bounds-words-i c = omega arith
+
+pub bounds-words-i : goal.bounds-words-i
+bounds-words-i c = omega arith
+
+pub put_bytes-requires : goal.put_bytes-requires
+put_bytes-requires c = omega arith
+
+pub overflow_add-i : goal.overflow_add-i
+overflow_add-i c = omega arith
+
+pub loop-i-smaller : goal.loop-i-smaller
+loop-i-smaller c = omega arith
+
+pub loop-i-preserved : goal.loop-i-preserved
+loop-i-preserved c = (ap length c.put_bytes.ensures ∙ length-sets c.loop-i.image (4 * c.loop-i.i) (bytes_of (get_or c.args.words.now c.loop-i.i 0)) ∙ c.loop-i.invariant.0, omega arith, c.put_bytes.ensures ∙ ap (λ (l : List ℕ). sets l (4 * c.loop-i.i) (bytes_of (get_or c.args.words.now c.loop-i.i 0))) c.loop-i.invariant.2 ∙ bytes_more c.args.words.now c.args.image.now c.loop-i.i (omega arith) (omega arith) (c.loop-i.i + 1) (omega arith))
+
+pub shape_of-image : goal.shape_of-image
+shape_of-image c = c.loop-i.invariant.0
+
+pub returns : goal.returns
+returns c =
+    let end : c.loop-i.i ≡ c.args.n = omega arith in
+    c.loop-i.invariant.2 ∙ rw end

@@ -1,0 +1,16 @@
+-- So far the first words, then what was there.
+use Prim.Native.Nat.{ℕ, ◌+◌, ◌*◌, ◌-◌, ◌≤◌}
+use mathlib.Core.Path.{◌≡◌, refl, ◌∙◌, ap}
+use mathlib.Core.List.{List, ◌++◌}
+use lib.ListN.{length, take, drop, get_or}
+use lib.Seq.{sets, length-sets}
+use Rattle.word.specs.Bytes.{bytes_of, bytes_of_words}
+use Rattle.emission.proofs.Wordwise.{bytes_none, bytes_more}
+use native.Mathlib.Omega.{arith}
+use Rattle.emission.proofs.image.bytes.Given as goal
+
+abbrev pub invariant-loop-i : goal.invariant-loop-i
+invariant-loop-i l = (length l.image ≡ length l.initial.image) × (l.i ≤ l.n) × (l.image ≡ bytes_of_words (take l.i l.words) ++ drop (4 * l.i) l.initial.image)
+
+abbrev pub decreases-loop-i : goal.decreases-loop-i
+decreases-loop-i l = l.n - l.i
