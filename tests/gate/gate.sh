@@ -13,10 +13,12 @@ fresh() {
     echo 'small:' >crates.txt
     echo 'echo "1 passed, 0 failed"' >tests/gate/one.sh
     cat >crates/small/src/lib.rt <<'RT'
-ghost use mathlib.Core.Path.{_≡_};
+#![tactic(auto)]
+
+ghost use Rattle.std.specs.Prelude.{◌≡◌};
 
 pub fn seven() -> u32
-    ensures { λ r. ⌜ r ≡ 7 ⌝ }
+    ensures { result ≡ 7 }
 {
     7
 }
@@ -43,48 +45,53 @@ expect() { # WHAT PASSED FAILED SAID
 
 fresh
 printf 'file: src/lib.rt\nold:     7\nnew:     8\n' >crates/small/must-fail/eight.edit
-expect "a proved repository" 4 0 "^small .* 1$"
+expect "a proved repository" 3 0 "^small .* 1$"
 
 fresh
 cp -R crates/small crates/unlisted
-expect "a crate that crates.txt does not list" 3 1 "in no crate that crates.txt lists.*crates/unlisted/src/lib.rt"
+expect "a crate that crates.txt does not list" 1 1 "no check reads .*crates/unlisted/src/lib.rt"
 
 fresh
 printf '\npub fn f(a: u32) -> u32 {\n    a + 1\n}\n' >>crates/small/src/lib.rt
-expect "a function that is not proved" 2 1 "^rt: small NOT PROVED"
+expect "a function that is not proved" 1 1 "^rt: small NOT PROVED"
 
 fresh
-echo 'use Prim.Native.Nat.{ℕ}' >crates/small/Stray.antt
-expect "an .antt file beside a crate's folders" 3 1 "in no crate that crates.txt lists.*crates/small/Stray.antt"
+echo 'use Rattle.std.specs.Prelude.{ℕ}' >crates/small/Stray.antt
+expect "an .antt file beside a crate's folders" 1 1 "no check reads .*crates/small/Stray.antt"
 
 fresh
 mkdir crates/small/specs
-echo 'use Prim.Native.Nat.{ℕ}' >crates/small/specs/Stray.antt
-expect "an .antt file that no module names" 2 1 "^rt: small NOT PROVED"
+echo '-- No module.' >crates/small/specs/Lib.antt
+echo 'use Rattle.std.specs.Prelude.{ℕ}' >crates/small/specs/Stray.antt
+expect "an .antt file that no module names" 1 1 "^rt: small NOT PROVED"
 
 fresh
 printf 'file: src/lib.rt\nold: seven\nnew: eight\n' >crates/small/must-fail/name.edit
-expect "an edit that the prover does not refuse" 3 1 "must-fail small/name: NOT REFUSED"
+expect "an edit that the prover does not refuse" 2 1 "must-fail small/name.edit: NOT REFUSED"
+
+fresh
+printf 'file: src/lib.rt\nold:     9\nnew:     8\n' >crates/small/must-fail/nine.edit
+expect "an edit that can't be applied" 2 1 "FAILED: rt ci found bad must-fail edits"
 
 fresh
 sed -i 's/^    7$/  7/' crates/small/src/lib.rt
-expect "a layout that is not rt's" 2 1 "FAILED: rt fmt --check"
+expect "a layout that is not rt's" 1 1 "src/lib.rt is not in the layout"
 
 fresh
 echo 'echo "2 passed, 3 failed"; exit 1' >tests/gate/two.sh
-expect "a test that counts failures" 5 3 "2 passed, 3 failed"
+expect "a test that counts failures" 4 3 "2 passed, 3 failed"
 
 fresh
 echo 'exit 0' >tests/gate/two.sh
-expect "a test that says nothing" 3 1 "two.sh did not run to its last line"
+expect "a test that says nothing" 2 1 "two.sh did not run to its last line"
 
 fresh
 rm -r tests
-expect "a repository without tests" 2 1 "did not run to its last line"
+expect "a repository without tests" 1 1 "did not run to its last line"
 
 fresh
-echo 'small' >crates.txt
-expect "a crates.txt that rt cannot read" 2 1 "rt ci did not run to its last line"
+echo 'small crate' >crates.txt
+expect "a crates.txt that rt cannot read" 1 1 "^rt: .*crates.txt: "
 
 echo "$passed passed, $failed failed"
 [ "$failed" -eq 0 ]

@@ -1,120 +1,120 @@
 """What the command line asks for."""
 import re
+import shutil
+import tempfile
+from pathlib import Path
 
-from .files import Fault, read, repository, write
-from .proof import Answers, fill, needs_of, unfill
-from .workspace import Workspace, is_cycle
+from .files import Fault, read, repository, run, write
 
-
-class Function:
-    """A function or a cycle of a crate: its skeleton, its needs and its two files."""
-
-    def __init__(self, work, path):
-        self.path, self.skeleton = path, work.skeleton(path)
-        self.needs = needs_of(self.skeleton, work.lts(path))
-        self.answers = work.own / "proofs" / path / "answers"
-        self.proof = self.answers.parent / "Proof.antt"
-        self.shown = self.answers.relative_to(work.root)
-
-    def lines(self, need, with_things):
-        """A line for each need (or for one), with the things that may be cited there."""
-        lines = []
-        for name, things in self.needs.items():
-            if need not in (None, name):
-                continue
-            parameters = re.search(rf"(?m)^{re.escape(name)}((?: \S+)*) =", self.skeleton)[1]
-            lines.append(f"== {name}" + (f"   (of{parameters})" if things is None else ""))
-            if with_things:
-                lines += [f"   ${thing}" + (": ." + " .".join(fields) if fields else "")
-                          for thing, (_, fields) in (things or {}).items()]
-        return lines
+# a line of rt's that says what it did, and not what is proved
+NOISE = re.compile(r"^(rt: |logic /|library |crate |statements |checked |so far: |rattle: no verdict)")
+FUNCTION = re.compile(r"^fn (\S+): (.*)$", re.M)
+# an answer, up to the next declaration or comment at the margin
+ANSWER = r"(?m)^pub {0} :.*\n(?:[ \t].*\n)*{0}(?: .*)?\n(?:[ \t].*\n)*"
 
 
-def one(work, given):
-    """The path of the function that the command line names."""
-    covered, name = work.covered(), given.replace("::", "/").strip("/")
-    hits = [path for path in covered if name == path or name in path.split("/")[-1].split("+")[1:]]
-    if len(hits) != 1:
-        raise Fault(f"{work.crate} has {'more than one' if hits else 'no'} function {name} that the borrow checker "
-                    "covers; it has: " + " ".join(hits or covered))
-    return hits
+def dependencies(root):
+    """{crate: what it depends on}, from crates.txt."""
+    found = {}
+    for line in read(root / "crates.txt").split("\n"):
+        name, colon, rest = line.split("#")[0].partition(":")
+        if colon:
+            found[name.split()[0]] = rest.split()
+    return found
 
 
-def every(work, file):
-    """(the paths that have such a file, how many of them are no function any more)"""
-    covered, found, bad = work.covered(), [], 0
-    for path in work.folders(file):
-        if path in covered:
-            found.append(path)
-            continue
-        bad += 1
-        now = [c for c in covered if is_cycle(c) and set(path.split("+")[1:]) & set(c.split("+")[1:])]
-        print(f"{path}: FAULT: no such function, or the borrow checker does not cover it (rt dev {work.crate} says)"
-              + "".join(f"; the cycle is now {c}: rename the folder" for c in now))
-    if not found:
-        raise Fault(f"nothing to do below crates/{work.crate}/proofs: begin an `answers` file with "
-                    f"tools/prove --new {work.crate} FUNCTION")
-    return found, bad
+def below(crate, deps):
+    """The crate and all that it depends on, of this repository."""
+    found = {crate}
+    for name in deps[crate]:
+        if name in deps:
+            found |= below(name, deps)
+    return found
 
 
-def show_paths(work, function, need):
-    lines = function.lines(need, True)
-    print("\n".join(lines) or f"prove: {function.path} has no need {need}; it has: " + " ".join(function.needs))
+def checked(folder, *flags):
+    """(status, what `rt check` says in this folder, without its noise)"""
+    status, said = run(["rt", "check", *flags], folder)
+    return status, "\n".join(line for line in said.rstrip("\n").split("\n") if not NOISE.match(line)) + "\n"
 
 
-def begin(work, function):
-    if function.answers.exists():
-        raise Fault(f"{function.shown} is there already")
-    lines = function.lines(None, False)
-    write(function.answers, f"-- `{work.crate}::{function.path}` meets its contract.\n# DEFAULT omega arith\n"
-          + "".join(f"# {line}\n" for line in lines))
-    print(f"prove: wrote {function.shown}: {len(lines)} needs, invariants and measures, as comments")
+def copied(root, crate, room):
+    """A copy of the crate and of those below it, without what checks kept."""
+    deps = dependencies(root)
+    shutil.copy(root / "crates.txt", room / "crates.txt")
+    (room / ".git").mkdir()
+    for name in deps:
+        if name in below(crate, deps):
+            shutil.copytree(root / "crates" / name, room / "crates" / name, ignore=shutil.ignore_patterns("out"))
+    lines = read(root / "crates.txt").split("\n")
+    write(room / "crates.txt", "".join(line + "\n" for line in lines if line.split("#")[0].split(":")[0].split()[:1] and
+                                       line.split("#")[0].split(":")[0].split()[0] in below(crate, deps)))
+    return room / "crates" / crate
 
 
-def take_over(work, function):
-    if function.answers.exists() or not function.proof.exists():
-        why = "answers already" if function.answers.exists() else "no Proof.antt"
-        print(f"{function.path}: passed over: it has {why}")
-    else:
-        write(function.answers, unfill(read(function.proof), function.skeleton, function.needs))
-        print(f"{function.path}: wrote {function.shown}")
+def proofs_of(own, function):
+    """The folder below proofs/ that has or would have the function's files, and its name there."""
+    parts = function.replace("/", "::").split("::")
+    if (own / "proofs" / Path(*parts)).is_dir():
+        return own / "proofs" / Path(*parts)
+    folders = sorted({p.parent for kind in ("Answers.antt", "Invariants.antt", "Proof.antt") for p in (own / "proofs").rglob(kind)})
+    named = [f for f in folders if f.parts[-len(parts):] == tuple(parts) or
+             (f.name.startswith("+") and list(f.relative_to(own / "proofs").parts[:-1])[-(len(parts) - 1) or len(f.parts):] == parts[:-1]
+              and f"pub {parts[-1]}-" in "".join(read(p) for p in f.glob("*.antt")))]
+    return named[0] if len(named) == 1 else own / "proofs" / Path(*parts)
 
 
-def write_proofs(work, functions):
-    """Writes each Proof.antt and says what was found; gives how many have faults."""
-    texts, report, bad = {}, [], 0
-    for function in functions:
-        if not function.answers.exists():
-            raise Fault(f"there is no {function.shown}: begin it with tools/prove --new {work.crate} {function.path}")
-        answers = Answers(read(function.answers))
-        report.append(f"{function.path}: {len(answers.terms)} answers for {len(function.needs)} needs, invariants and measures")
-        texts[function.path], notes, faults = fill(function.path, function.skeleton, function.needs, answers)
-        report += ["    " + note for note in notes] + ["    FAULT: " + fault for fault in faults]
-        bad += bool(faults)
-    work.layout(texts)
-    print("\n".join(report) + f"\nprove: {len(texts)} Proof.antt written; now: rt dev {work.crate}")
-    return bad
+def opened(file, module, goal):
+    """The goal's answer becomes a hole."""
+    hole = f"pub {goal} : goal.{goal}\n{goal} c = ?\n"
+    text = read(file) if file.exists() else f"use {module}.Goals as goal\n"
+    found, count = re.subn(ANSWER.format(re.escape(goal)), hole, text, count=1)
+    write(file, found if count else text + "\n" + hole)
 
 
-def run(given):
-    work = Workspace(repository(), given.crate, given.fresh)
-    work.refresh()
-    bad = 0
-    if given.function:
-        paths = one(work, given.function)
-    else:
-        paths, bad = every(work, "Proof.antt" if given.what == "import" else "answers")
-    work.print_skeletons(paths)
-    functions = [Function(work, path) for path in paths]
-    if given.what == "paths":
-        show_paths(work, functions[0], given.need)
-    elif given.what == "new":
-        begin(work, functions[0])
-    elif given.what == "import":
-        for function in functions:
-            take_over(work, function)
-    else:
-        bad += write_proofs(work, functions)
-    if bad:
-        raise Fault(f"{bad} with faults")
+def paths(root, crate, own, function, goal):
+    """What may be cited at the goal, or the goals that are answered."""
+    folder = proofs_of(own, function)
+    answers = folder / "Answers.antt"
+    if goal is None:
+        names = re.findall(r"(?m)^pub (\S+) : goal\.\1$", read(answers) if answers.exists() else "")
+        print("\n".join(names) or f"prove: {function} has no answers: tools/prove --new {crate} {function} begins them")
+        return 0
+    with tempfile.TemporaryDirectory() as room:
+        copy = copied(root, crate, Path(room))
+        place = folder.relative_to(own)
+        module = f"Rattle.{crate}." + ".".join(place.parts)
+        opened(copy / place / "Answers.antt", module, goal)
+        _, said = checked(copy, "--only", function, "--allow-holes")
+    block = re.search(rf"(?m)^.*goal \?.* in `{re.escape(goal)}`\n((?:  .*\n)*)", said)
+    if not block:
+        raise Fault(f"there is no goal {goal} at {function}:\n{said}")
+    print(block[1], end="")
     return 0
+
+
+def begin(own, function):
+    _, said = checked(own, "--start", function)
+    print(said, end="")
+    return 0 if re.search(r"^started=", said, re.M) else 1
+
+
+def tell(own, function):
+    flags = ["--only", function] if function else []
+    status, said = checked(own, *flags, "--allow-holes")
+    print(said, end="")
+    open_ones = [name for name, how in FUNCTION.findall(said) if how not in ("proved", "no holes", "assumed")]
+    return 1 if status or open_ones or re.search(r"holes=[1-9]", said) else 0
+
+
+def run_in(root, given):
+    own = root / "crates" / given.crate
+    if given.crate not in dependencies(root) or not (own / "src").is_dir():
+        raise Fault(f"crates.txt lists no crate {given.crate} with a folder crates/{given.crate}/src")
+    if given.what == "paths":
+        return paths(root, given.crate, own, given.function, given.goal)
+    return begin(own, given.function) if given.what == "new" else tell(own, given.function)
+
+
+def asked(given):
+    return run_in(repository(), given)

@@ -1,5 +1,4 @@
 """Reading, writing and running."""
-import os
 import subprocess
 from pathlib import Path
 
@@ -18,9 +17,9 @@ def write(path, text):
 
 
 def run(words, where):
-    """What a command prints, on either stream, its lines whole."""
-    return subprocess.run(words, cwd=where, env=dict(os.environ, RT_CUT="0"), encoding="utf-8",
-                          stdout=subprocess.PIPE, stderr=subprocess.STDOUT).stdout
+    """(a command's status, what it prints on either stream)"""
+    ended = subprocess.run(words, cwd=where, encoding="utf-8", stdin=subprocess.DEVNULL, stdout=subprocess.PIPE, stderr=subprocess.STDOUT)
+    return ended.returncode, ended.stdout
 
 
 def repository():

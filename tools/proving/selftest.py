@@ -5,15 +5,15 @@ import tempfile
 from pathlib import Path
 
 from .files import read, run as said_by, write
-from .proof import Answers, expand, merge_uses, temporary
 
-SOURCE = """ghost use mathlib.Core.Path.{_≡_};
-ghost use Prim.Native.Nat.{_+_, _*_, _<_, _≤_};
+SOURCE = """#![tactic(auto)]
+
+ghost use Rattle.std.specs.Prelude.{◌≡◌, ◌+◌, ◌*◌, ◌<◌, ◌≤◌, length};
 
 // The sum of the bytes of `a`, of which there are few enough that the sum fits.
 pub fn total(a: &[u8]) -> usize
-    requires { do ⌜ (← ⟦a.len()⟧) ≤ 65536 ⌝ }
-    ensures { λ r. do ⌜ r ≤ 255 * (← ⟦a.len()⟧ .entry) ⌝ }
+    requires { length a.now ≤ 65536 }
+    ensures { result ≤ 255 * length a.now }
 {
     let mut sum: usize = 0;
     let mut i = 0;
@@ -26,67 +26,58 @@ pub fn total(a: &[u8]) -> usize
 
 // One more than `n`.
 pub fn next(n: usize) -> usize
-    requires { ⌜ n < 1000 ⌝ }
-    ensures { λ r. ⌜ r ≡ n + 1 ⌝ }
+    requires { n < 1000 }
+    ensures { result ≡ n + 1 }
 {
     n + 1
 }
 
 // Two more than `n`.
 pub fn after(n: usize) -> usize
-    requires { ⌜ n < 900 ⌝ }
-    ensures { λ r. ⌜ r ≡ n + 2 ⌝ }
+    requires { n < 900 }
+    ensures { result ≡ n + 2 }
 {
     next(next(n))
 }
 
 // Whether `n` is even.
+#[cycle(parity)]
 pub fn even(n: u32) -> bool {
-    if n == 0 {
-        true
-    } else {
-        odd(n - 1)
-    }
+    if n == 0 { true } else { odd(n - 1) }
 }
 
 // Whether `n` is odd.
+#[cycle(parity)]
 pub fn odd(n: u32) -> bool {
-    if n == 0 {
-        false
-    } else {
-        even(n - 1)
-    }
+    if n == 0 { false } else { even(n - 1) }
 }
 """
 
-TOTAL = """-- `total` meets its contract: the sum is at most 255 for each byte passed.
-# a line that is dropped
+CHOSEN = """use Prim.Native.Nat.{◌≤◌, ◌*◌, ◌-◌}
 use lib.ListN.{length}
-use Prim.Native.Nat.{_≤_, _*_, _-_}
-DEFAULT omega arith
+use Rattle.sums.proofs.total.Given as goal
 
-== Inv-loop
-(i ≤ length a) × (sum ≤ 255 * i)
-== μ-loop
-length a - i
-== cast-sum
-omega (arith, $shared-slice-known .given $loop .i)
-== add-sum
-omega (arith, $shared-slice-known .given $loop .i)
-== loop-again
-omega (arith, $shared-slice-known .given $loop .i)
+abbrev pub invariant-loop-i : goal.invariant-loop-i
+invariant-loop-i l = (l.i ≤ length l.a) × (l.sum ≤ 255 * l.i)
+
+abbrev pub decreases-loop-i : goal.decreases-loop-i
+decreases-loop-i l = length l.a - l.i
 """
 
-AFTER = """-- `after` meets its contract.
-== returns
-omega (arith, $next .ensures, $next2 .ensures)
+ANSWERED = """use native.Mathlib.Omega.{arith}
+use Rattle.sums.proofs.after.Goals as goal
+
+pub returns : goal.returns
+returns c = omega (arith, c.next.ensures, c.next-2.ensures)
 """
 
-CYCLE = """-- The cycle ends: its number falls.
-== μ-even
-a .0
-== μ-odd
-a .0
+CYCLE = """use Rattle.sums.proofs.+parity.Given as goal
+
+abbrev pub decreases-even : goal.decreases-even
+decreases-even a = a.n
+
+abbrev pub decreases-odd : goal.decreases-odd
+decreases-odd a = a.n
 """
 
 
@@ -103,74 +94,62 @@ class Tests:
             print(f"FAILED: {what}" + "".join(f"\n    {line}" for line in said.split("\n") if line))
 
 
-def of_text(tests):
-    """What needs no crate."""
-    tests.expect("`use` lines of one module are one line, and an `as` that nobody cites goes",
-                 merge_uses(["use a.B.{x}", "use a.B.{y, x}", "use c.D as d", "use c.E as e"], "e.f")
-                 == ["use a.B.{x, y}", "use c.E as e"])
-    tests.expect("an argument is put in parentheses, a head is not",
-                 expand("$f .g $h .i", {"f": ("c .f", []), "h": ("c .before .h", [])})[0] == "c .f .g (c .before .h .i)")
-    tests.expect("a temporary's number is no part of a need's kind",
-                 [temporary(n) for n in ("add-t20", "add-t7-2", "add-i")] == ["add-t", "add-t-2", None])
-    answers = Answers("== add-t20\nomega arith\n")
-    notes = answers.rename_temporaries({"add-t21": {}})
-    tests.expect("an answer follows its temporary to another number", "add-t21" in answers.terms and len(notes) == 1)
-
-
 def of_crate(tests, tool, root):
     """The whole way on a crate."""
     proofs = root / "crates" / "sums" / "proofs"
+    chosen, answered = proofs / "total" / "Invariants.antt", proofs / "after" / "Answers.antt"
     write(root / "crates.txt", "sums:\n")
     write(root / "crates" / "sums" / "src" / "lib.rt", SOURCE)
-    write(proofs / "total" / "answers", TOTAL)
-    write(proofs / "after" / "answers", AFTER)
-    write(proofs / "+even+odd" / "answers", CYCLE)
 
     def prove(*words):
         ended = subprocess.run([sys.executable, str(tool), *words], cwd=root, encoding="utf-8",
                                stdout=subprocess.PIPE, stderr=subprocess.STDOUT)
         return ended.returncode, ended.stdout
 
+    status, said = prove("--new", "sums", "total")
+    tests.expect("--new begins a function's files", status == 0 and "invariant-loop-i l = ?" in read(chosen), said)
+    status, said = prove("--new", "sums", "nowhere")
+    tests.expect("a function that is not there is reported", status == 1 and "no function `nowhere`" in said, said)
+    (proofs / "total" / "Answers.antt").unlink()
+    write(chosen, CHOSEN.split("abbrev pub decreases")[0])
+    status, said = prove("sums", "total")
+    tests.expect("a measure that is not there is reported", status == 1 and "expected a measure" in said, said)
+    write(chosen, CHOSEN)
+    write(answered, ANSWERED)
+    write(proofs / "+parity" / "Invariants.antt", CYCLE)
     status, said = prove("sums")
-    tests.expect("answers become proofs", status == 0 and (proofs / "total" / "Proof.antt").exists(), said)
-    good = read(proofs / "total" / "Proof.antt") if status == 0 else ""
-    said = said_by(["rt", "check"], root)
-    tests.expect("rt check takes them", "rt: ok, 1 crates proved" in said, said)
+    tests.expect("a crate whose goals have answers is proved", status == 0, said)
+    status, said = said_by(["rt", "check"], root / "crates" / "sums")
+    tests.expect("rt check takes them", status == 0 and "\nlogic=proved" in said, said)
 
-    write(proofs / "total" / "answers", TOTAL.replace("$loop .i)\n== add-sum", "$gone .i)\n== add-sum"))
+    write(answered, ANSWERED.replace("c.next.ensures", "c.gone.ensures"))
+    status, said = prove("sums", "after")
+    tests.expect("a fact that is not there is reported, with what is", status == 1
+                 and "has no field `gone`" in said and "`next-2`" in said, said)
+    write(answered, ANSWERED + "\npub shift-sum : goal.shift-sum\nshift-sum c = omega arith\n")
+    status, said = prove("sums", "after")
+    tests.expect("an answer that fits no goal is reported", status == 1 and "has no `shift-sum`" in said, said)
+    write(answered, ANSWERED.replace("omega (arith, c.next.ensures, c.next-2.ensures)", "?"))
+    status, said = prove("sums", "after")
+    tests.expect("a goal that is open is reported", status == 1 and "goal ? in `returns`" in said, said)
+    write(answered, ANSWERED)
+    write(chosen, CHOSEN.replace("255 * l.i", "254 * l.i"))
     status, said = prove("sums", "total")
-    tests.expect("a $thing that is not there is reported, with what is", status == 1
-                 and "FAULT: cast-sum: there is no $gone here; there is: $shared-slice-known" in said, said)
-    write(proofs / "total" / "answers", TOTAL + "== shift-sum\nomega arith\n")
-    status, said = prove("sums", "total")
-    tests.expect("a stale answer is reported", status == 1 and "FAULT: stale answer: there is no need shift-sum" in said, said)
-    write(proofs / "total" / "answers", TOTAL.replace("== μ-loop\nlength a - i\n", ""))
-    status, said = prove("sums", "total")
-    tests.expect("a measure without an answer is reported", status == 1 and "FAULT: μ-loop has no answer" in said, said)
-    write(proofs / "total" / "answers", TOTAL.replace("255 * i", "254 * i"))
-    status, said = prove("sums", "total")
-    said += said_by(["rt", "dev", "sums"], root)
-    tests.expect("rt refuses a proof of a wrong invariant", status == 0 and "logic=not-proved" in said, said)
+    tests.expect("a wrong invariant is refused", status == 1 and "may be false" in said, said)
+    write(chosen, CHOSEN)
 
-    write(proofs / "total" / "Proof.antt", good)
-    (proofs / "total" / "answers").unlink()
-    status, said = prove("--import", "sums", "total")
-    again, more = prove("sums", "total")
-    tests.expect("a proof becomes answers, and they the same proof", (status, again) == (0, 0)
-                 and "$loop .i" in read(proofs / "total" / "answers")
-                 and read(proofs / "total" / "Proof.antt") == good, said + more)
-    status, said = prove("--paths", "sums", "total", "cast-sum")
-    tests.expect("--paths lists what may be cited", status == 0 and "   $loop: .sum .i .inv" in said, said)
-    status, said = prove("--new", "sums", "next")
-    tests.expect("--new begins an answers file", status == 0 and "# == returns" in read(proofs / "next" / "answers"), said)
-    status, said = prove("sums", "nowhere")
-    tests.expect("a function that is not there is reported", status == 1 and "no function nowhere" in said, said)
+    status, said = prove("--paths", "sums", "total", "overflow_add-sum")
+    tests.expect("--paths lists what may be cited at a goal that rattle proves", status == 0 and "c.loop-i: .sum, .i, .invariant" in said, said)
+    status, said = prove("--paths", "sums", "after", "returns")
+    tests.expect("--paths lists what may be cited at a goal that has an answer", status == 0 and "c.next-2: " in said
+                 and read(answered) == ANSWERED, said)
+    status, said = prove("--paths", "sums", "after", "nothing")
+    tests.expect("a goal that is not there is reported", status == 1 and "no goal nothing at after" in said, said)
 
 
 def run(tool):
     """Runs all, prints the count as the last line, and gives the exit status."""
     tests = Tests()
-    of_text(tests)
     with tempfile.TemporaryDirectory() as folder:
         of_crate(tests, tool, Path(folder).resolve())
     print(f"{tests.passed} passed, {tests.failed} failed")

@@ -19,4 +19,5 @@ pub mod Reaches
 pub mod Encodes
 pub mod Whole
 pub mod Bounds
+pub mod Paying
 pub mod Theorem

@@ -1,5 +1,5 @@
 -- Every name of a text's tree stands in the text at the place that comes with it: so it is of name tokens, and a derivation's names are name tokens.
-use mathlib.Core.Path.{◌≡◌, refl, sym, ap, ◌∙◌}
+use mathlib.Core.Path.{◌≡◌, refl, sym, ap, subst, ◌∙◌}
 use mathlib.Core.List.{List, [], ◌∷◌, ◌++◌, append_assoc}
 use mathlib.Core.Option.{Option, some}
 use Prim.Native.Nat.{ℕ, zero, suc, ◌+◌}
@@ -25,11 +25,9 @@ part_at : (before w rest : List ℕ) (i : ℕ) → length before ≡ i → part 
 unfolding part
 part_at before [] rest i e = refl
 part_at before (b ∷ w) rest i e =
-    rw (
-      get_or_at before b (w ++ rest) 0 i e,
-      ← (append_assoc before (b ∷ []) (w ++ rest)),
-      part_at (before ++ (b ∷ [])) w rest (i + 1) (length-append before (b ∷ []) ∙ ap (λ (n : ℕ). n + 1) e),
-    )
+    rw (get_or_at before b (w ++ rest) 0 i e)
+    (subst (λ (xs : Name). b ∷ part xs (i + 1) (length w) ≡ b ∷ w) (append_assoc before (b ∷ []) (w ++ rest))
+    (ap (λ (xs : Name). b ∷ xs) (part_at (before ++ (b ∷ [])) w rest (i + 1) (length-append before (b ∷ []) ∙ ap (λ (n : ℕ). n + 1) e))))
 
 module _ (text : List ℕ) where
   first_stands : {i : Place} (w rest before : List ℕ) → text ≡ before ++ (w ++ rest) → length before ≡ i → (x : Name) (p : Place) → w ≡ x → i ≡ p → Stands text p x

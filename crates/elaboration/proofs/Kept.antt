@@ -10,7 +10,7 @@ use Rattle.processor.specs.Image.{longest_code}
 use Rattle.claims.specs.Keeps.{Keeps}
 use Rattle.codegen.specs.Image.{image}
 use Rattle.codegen.specs.Costs.{costs}
-use Rattle.codegen.proofs.Bounds.{image_short}
+use Rattle.codegen.proofs.Paying.{image_short}
 use Rattle.codegen.proofs.Theorem.{theorem}
 use Rattle.elaboration.proofs.Accepted.{accepted, accepted_light}
 

@@ -3,6 +3,7 @@ use Prim.Native.Nat.{◌-◌, ◌*◌, ◌+◌, ◌≤◌, ℕ, ◌<◌}
 use mathlib.Core.Path.{◌≡◌, refl, sym, ap, ◌∙◌}
 use mathlib.Core.Logic.{⊎_elim}
 use native.Mathlib.Omega.{arith}
+use borrow.Author.Tests.{eq-eqb, ne_eqb}
 use lib.Dec.{eqb}
 use lib.ListN.{length, get_or}
 use Rattle.emission.specs.Macros.{related}
@@ -12,6 +13,7 @@ use Rattle.compiler.proofs.Valuing as E
 use Rattle.compiler.proofs.Deciding as D
 use Rattle.compiler.proofs.Calling as C
 use Rattle.compiler.proofs.values.+arguments_called_condition_decided_joined_value.Goals as goal
+use Rattle.compiler.proofs.values.+arguments_called_condition_decided_joined_value.Goals.{joined-then-other, joined-else-other}
 
 pub arguments-returns-then-n-eq0 : goal.arguments-returns-then-n-eq0
 arguments-returns-then-n-eq0 t c = record { arguments = C.arguments_none c.if-n-eq0.true; within = omega arith }
@@ -164,7 +166,7 @@ pub joined-shape_of-out : goal.joined-shape_of-out
 joined-shape_of-out t c = omega (arith, c.settle-decided.auto, c.jump-jumped.auto, c.carry-moved.auto, c.value-last.auto, c.condition.auto)
 
 pub joined-returns : goal.joined-returns
-joined-returns t c = record { values = E.value_join _ _ _ _ _ _ c.requires.1.1 c.start_of-middle.ensures.starts (ap (λ (w : _). eqb w 7) c.word-other.ensures) c.place_of-p.ensures (⊎_elim (λ w. E.bit_true w.0.taken w.1) (λ w. E.bit_false w.0.left w.1) c.if-other.branch) c.settle-decided.ensures.emits c.jump-jumped.ensures.emits c.carry-moved.ensures.emits c.value-last.ensures.values c.condition.ensures.conditions; within = omega (arith, c.settle-decided.ensures.within, c.jump-jumped.ensures.within, c.carry-moved.ensures.within, c.value-last.ensures.within, c.condition.ensures.within) }
+joined-returns t c = record { values = E.value_join _ _ _ _ _ _ c.requires.1.1 c.start_of-middle.ensures.starts (ap (λ (w : _). eqb w 7) c.word-other.ensures) c.place_of-p.ensures (elim c.if-other.branch [ joined-then-other w ↦ E.bit_true (eq-eqb _ _ w.if-other.true) w.v-is | joined-else-other w ↦ E.bit_false (ne_eqb _ _ w.if-other.false) w.v-is ]) c.settle-decided.ensures.emits c.jump-jumped.ensures.emits c.carry-moved.ensures.emits c.value-last.ensures.values c.condition.ensures.conditions; within = omega (arith, c.settle-decided.ensures.within, c.jump-jumped.ensures.within, c.carry-moved.ensures.within, c.value-last.ensures.within, c.condition.ensures.within) }
 
 pub value-loop-e-init : goal.value-loop-e-init
 value-loop-e-init t c = (E.leads_start, omega arith, omega arith, refl)

@@ -13,9 +13,6 @@ use Rattle.compiler.proofs.Deciding as D
 use Rattle.compiler.proofs.Calling as C
 use Rattle.compiler.proofs.values.+arguments_called_condition_decided_joined_value.Given as goal
 
-abbrev value_at_lem : ℕ → In 3 value-kinds.ps
-value_at_lem t = and 3 value-kinds.ps (is 3 value-kinds.ps μ-value t) value.Pre
-
 abbrev pub decreases-arguments : goal.decreases-arguments
 decreases-arguments l = 8589934592 * l.end + 4 + l.n
 

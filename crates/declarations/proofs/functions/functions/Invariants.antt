@@ -1,0 +1,16 @@
+-- The functions before p are in the core's rows, and what is left gives the rest.
+use mathlib.Core.Path.{◌≡◌, refl, ◌∙◌}
+use native.Mathlib.Omega.{arith}
+use Prim.Native.Nat.{◌-◌}
+use lib.ListN.{length}
+use Rattle.rules.specs.Tables.{globals_in}
+use Rattle.declarations.proofs.Filling as L
+use Rattle.declarations.proofs.Rooms.{rooms_on, placed_at}
+use Rattle.declarations.proofs.Standing.{further}
+use Rattle.declarations.proofs.functions.functions.Given as goal
+
+abbrev pub invariant-loop-p : goal.invariant-loop-p
+invariant-loop-p l = L.Filling l.text l.tree l.words (globals_in l.text l.tree l.globals l.g) l.total l.initial.core l.p l.q l.f l.core × (length l.locals ≡ length l.initial.locals) × (length l.types ≡ length l.initial.types) × (length l.starts ≡ length l.initial.starts) × (length l.core ≡ length l.initial.core)
+
+abbrev pub decreases-loop-p : goal.decreases-loop-p
+decreases-loop-p l = l.words - l.p
