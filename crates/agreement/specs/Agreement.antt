@@ -42,9 +42,9 @@ faults Limit = false
 
 -- an outcome of the text's run with its log and arrays, then how the image's run stopped, with its log and arrays
 unfoldable pub agrees_of : Outcome → List ℕ → List ℕ → Status → List ℕ → List ℕ → Bool
-agrees_of finished log arrays s image-log image-arrays = both (exits s) (both (same image-log log) (same image-arrays arrays))
-agrees_of (stopped (trapped t)) log arrays s image-log image-arrays = both (traps_with t s) (both (same image-log log) (same image-arrays arrays))
-agrees_of (stopped out_of_fuel) log arrays s image-log image-arrays = both (not (faults s)) (begins log image-log)
+agrees_of finished log arrays s image_log image_arrays = both (exits s) (both (same image_log log) (same image_arrays arrays))
+agrees_of (stopped (trapped t)) log arrays s image_log image_arrays = both (traps_with t s) (both (same image_log log) (same image_arrays arrays))
+agrees_of (stopped out_of_fuel) log arrays s image_log image_arrays = both (not (faults s)) (begins log image_log)
 
 abbrev pub agreed : Program → Run → M.Run → Bool
 agreed p r m =

@@ -4,9 +4,9 @@
 ghost use Rattle.std.specs.Prelude.{◌≡◌};
 ghost use Rattle.word.specs.Choice.{both};
 ghost use Rattle.word.specs.Bytes.{words_of_bytes};
-ghost use Rattle.language.specs.Tokens.{same as sameOf, begins as beginsOf};
+ghost use Rattle.language.specs.Tokens.{same as same_of, begins as begins_of};
 ghost use Rattle.interpreter.specs.Post.{outcome_of};
-ghost use Rattle.agreement.specs.Agreement.{exits as exitsOf, traps_with, faults as faultsOf, agrees_of};
+ghost use Rattle.agreement.specs.Agreement.{exits as exits_of, traps_with, faults as faults_of, agrees_of};
 
 use interpreter::Outcome;
 use processor::Status;
@@ -14,7 +14,7 @@ use word::bytes::word_of;
 
 // Whether two lists of words are the same.
 fn same(a: &[u32], b: &[u32]) -> bool
-    ensures { result ≡ sameOf a.now b.now }
+    ensures { result ≡ same_of a.now b.now }
 {
     if a.len() != b.len() {
         return false;
@@ -31,7 +31,7 @@ fn same(a: &[u32], b: &[u32]) -> bool
 
 // Whether the words of these bytes are the same as those.
 fn same_words(bytes: &[u8], words: &[u32]) -> bool
-    ensures { result ≡ sameOf (words_of_bytes bytes.now) words.now }
+    ensures { result ≡ same_of (words_of_bytes bytes.now) words.now }
 {
     if bytes.len() / 4 != words.len() {
         return false;
@@ -50,7 +50,7 @@ fn same_words(bytes: &[u8], words: &[u32]) -> bool
 
 // Whether the words of a are the first of b.
 fn begins(a: &[u32], b: &[u32]) -> bool
-    ensures { result ≡ beginsOf a.now b.now }
+    ensures { result ≡ begins_of a.now b.now }
 {
     let n = a.len();
     if n <= b.len() {
@@ -61,7 +61,7 @@ fn begins(a: &[u32], b: &[u32]) -> bool
 }
 
 fn exits(s: Status) -> bool
-    ensures { result ≡ exitsOf s }
+    ensures { result ≡ exits_of s }
 {
     match s {
         Status::Going => false,
@@ -85,7 +85,7 @@ fn traps_with(t: u32, s: Status) -> bool
 }
 
 fn faults(s: Status) -> bool
-    ensures { result ≡ faultsOf s }
+    ensures { result ≡ faults_of s }
 {
     match s {
         Status::Going => false,
@@ -98,7 +98,7 @@ fn faults(s: Status) -> bool
 
 // Whether both left the same log and the same arrays.
 fn left_same(log: &[u32], arrays: &[u32], logged: &[u32], block: &[u8]) -> bool
-    ensures { result ≡ both (sameOf logged.now log.now) (sameOf (words_of_bytes block.now) arrays.now) }
+    ensures { result ≡ both (same_of logged.now log.now) (same_of (words_of_bytes block.now) arrays.now) }
 {
     if same(logged, log) {
         same_words(block, arrays)

@@ -5,7 +5,7 @@ use Rattle.std.specs.Prelude.{true, List, [], ◌∷◌, ◌++◌, ◌⊎◌, �
 use Rattle.std.proofs.Math.Option.{Option, none, some}
 use Rattle.word.specs.Bytes.{bytes_of_words}
 use Rattle.language.specs.Core.{Program}
-use Rattle.language.specs.Meaning.{World, Stop, trapped, out_of_fuel, Outcome, finished, stopped, Run, run_of}
+use Rattle.language.specs.Meaning.{trapped, out_of_fuel, Outcome, finished, stopped, Run, run_of}
 use Rattle.processor.specs.declared.Status.{Status}
 use Rattle.processor.specs.declared.Status.TheVariants.{Exit, Trap, Fault, Limit}
 use Rattle.processor.specs.Run as M

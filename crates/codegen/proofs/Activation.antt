@@ -10,7 +10,7 @@ use Rattle.processor.specs.Machine.{data_start}
 use Rattle.language.specs.Core.{Function}
 use Rattle.language.specs.Meaning.{World, Act, call_at, most_activations}
 use Rattle.symbolic.specs.Symbolic.{Fixed, Argument, Temporary, State, pos}
-use Rattle.codegen.specs.Places.{Place, constant, local, temporary, above, frame_bytes, local_word, temporary_word, stack_start, stack_end, most_temporaries, most_locals_lem}
+use Rattle.codegen.specs.Places.{Place, constant, local, temporary, above, frame_bytes, local_word, temporary_word, stack_start, stack_end, most_temporaries, most_locals}
 use Rattle.codegen.specs.Operators.{stub, trapping}
 use Rattle.language.specs.Rules.{most_elements_in_all}
 use Rattle.codegen.specs.Owed.{nothing}
@@ -84,7 +84,7 @@ pub record Activation (L : Linked) : Type 0 where
   pub R : ℕ
   pub left : ℕ
   pub m₀ : ℕ → ℕ
-  pub few : N ≤ most_locals_lem
+  pub few : N ≤ most_locals
   pub room : B + frame_bytes * suc left ≡ stack_end
   pub most : left < most_activations
   pub under : CallIn L left

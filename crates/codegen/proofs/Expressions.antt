@@ -20,7 +20,7 @@ use Rattle.language.specs.Tree.{Unary, negate, Strict, eq, ne, lt, le, gt, ge, a
 use Rattle.language.specs.Tree as T
 use Rattle.language.specs.Core.{Array, Expr, Args}
 use Rattle.language.specs.Core as C
-use Rattle.language.specs.Meaning.{World, Result, goes, stops, Act, bind, begin, value as gives, branch, apply, operate, read, fetch as fetchLocal, call_at, eval, evals}
+use Rattle.language.specs.Meaning.{World, Result, goes, stops, Act, bind, begin, value as gives, branch, apply, operate, read, fetch as fetch_local, call_at, eval, evals}
 use Rattle.symbolic.specs.Symbolic.{Fixed, Scratch, Argument, Temporary, Reg, x0, reg, answer, Instruction, opi, mv, jump, bad, State, value, goto, puts}
 use Rattle.codegen.specs.Places.{Place, constant, local, temporary, above, in_register, source, fetch, target, keep, settle, move, most_temporaries}
 use Rattle.codegen.specs.Operators.{skip, sense, operating, result, applying, relation, comparing, testing, always, reading}
@@ -83,8 +83,8 @@ module _ (L : Linked) (A : Activation L) where
         sound_end S (omega arith) (omega arith) (record { on = on; here = hp; cor = core_spent L A f c; is = refl; keep = λ j h. refl; locals = refl; less = omega arith }));
   }
 
-  local_in : (x d p : ℕ) → x < A.N → ExprIn (λ ls w. bind (begin ls w) (λ _. fetchLocal x)) 1 d p p (local x)
-  unfolding fetchLocal
+  local_in : (x d p : ℕ) → x < A.N → ExprIn (λ ls w. bind (begin ls w) (λ _. fetch_local x)) 1 d p p (local x)
+  unfolding fetch_local
   local_in x d p h = record {
     run = λ ls w σ on hp c. sound_begin S ls w _ on c.log_is c.arrays (λ f e.
         sound_end S (omega arith) (omega arith) (record { on = on; here = hp; cor = core_spent L A f c; is = c.locals x h; keep = λ j h. refl; locals = refl; less = omega arith }));

@@ -14,7 +14,7 @@ use Rattle.processor.specs.declared.Status.TheVariants.{Going, Fault}
 use Rattle.processor.specs.declared.Width.TheVariants.{Word}
 use Rattle.processor.specs.Execute.{reaches}
 use Rattle.symbolic.specs.Symbolic.{Bank, Fixed, Scratch, Argument, Temporary, first, Reg, x0, reg, sp, scratch, lw, sw, State, state, updated, get, value, quit, puts, stores, exec1}
-use Rattle.codegen.specs.Places.{Place, constant, local, temporary, in_register, local_word, temporary_word, source, target, most_temporaries, most_locals_lem}
+use Rattle.codegen.specs.Places.{Place, constant, local, temporary, in_register, local_word, temporary_word, source, target, most_temporaries, most_locals}
 use Rattle.codegen.proofs.Numbers.{add_is, in_data}
 
 pub updated_same : {A : Type 0} (f : ℕ → A) (k : ℕ) (v : A) → updated f k v k ≡ v
@@ -121,12 +121,12 @@ value_at (temporary d) B σ = value_by (in_register d) d B σ
 -- a place that is there, and one that code leaves where d temporaries are in use
 abbrev pub There : Place → Type 0
 There (constant n) = n < 2 ^ 32
-There (local y) = y < most_locals_lem
+There (local y) = y < most_locals
 There (temporary d) = d < most_temporaries
 
 abbrev pub Stable : Place → ℕ → Type 0
 Stable (constant n) d = Unit {0}
-Stable (local y) d = y < most_locals_lem
+Stable (local y) d = y < most_locals
 Stable (temporary j) d = j < d
 
 pub value_same : {B d q : ℕ} {σ τ : State} (p : Place) → Stable p d → Same B d q σ τ → value_at p B τ ≡ value_at p B σ

@@ -17,7 +17,7 @@ use Rattle.processor.specs.Execute.{cond_of}
 use Rattle.language.specs.Core.{Function}
 use Rattle.language.specs.Meaning.{World, Result, goes, stops, trapped, Act, bind, Flow, next, returned, result, back, call_at, most_activations}
 use Rattle.symbolic.specs.Symbolic.{Fixed, Argument, Temporary, Registers, x0, ra, sp, answer, Instruction, opi, sw, branch, call, State, updated, value, pos, goto, puts, stores, exec1}
-use Rattle.codegen.specs.Places.{frame_bytes, local_word, stack_start, stack_end, most_locals_lem}
+use Rattle.codegen.specs.Places.{frame_bytes, local_word, stack_start, stack_end, most_locals}
 use Rattle.codegen.specs.Operators.{stub}
 use Rattle.codegen.specs.Statements.{limit, leaving, block, clears, function_by, near_in, function}
 use Rattle.codegen.specs.Owed.{nothing, size_of, RunsAll, Proper}
@@ -69,7 +69,7 @@ module _ (L : Linked) where
     values : (i : ℕ) → i < n → τ.memory (B + 4 * local_word (first + i)) ≡ 0
     other : (a : ℕ) → ((i : ℕ) → i < n → a ≡ B + 4 * local_word (first + i) → ⊥) → τ.memory a ≡ σ.memory a
 
-  cleared : (B first n p q : ℕ) (σ : State) → Framed B → first + n ≤ most_locals_lem → σ.registers Fixed 1 ≡ B → At S.code p (clears first n) q → σ.status ≡ Going → σ.pc ≡ p
+  cleared : (B first n p q : ℕ) (σ : State) → Framed B → first + n ≤ most_locals → σ.registers Fixed 1 ≡ B → At S.code p (clears first n) q → σ.status ≡ Going → σ.pc ≡ p
       → (τ : State) × Ran S n σ τ × Cleared B first n q σ τ
   unfolding clears
   cleared B first zero p q σ F hf hs c on hp =

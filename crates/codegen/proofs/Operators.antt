@@ -22,7 +22,7 @@ use Rattle.processor.specs.Machine.{data_start}
 use Rattle.language.specs.Tree.{Unary, negate, Strict, eq, ne, lt, le, gt, ge, add, sub, mul, div, rem}
 use Rattle.language.specs.Tree as T
 use Rattle.language.specs.Core.{Array}
-use Rattle.language.specs.Meaning.{World, Stop, trapped, Result, goes, stops, Act, value as gives, trap, apply, operate, read, tested as insideOf}
+use Rattle.language.specs.Meaning.{World, Stop, trapped, Result, goes, stops, Act, value as gives, trap, apply, operate, read, tested as inside_of}
 use Rattle.symbolic.specs.Symbolic.{Fixed, Scratch, Argument, Temporary, Reg, x0, reg, scratch, Instruction, opi, op, lw, branch, jump, call, bad, State, value, quit, goto, puts, exec1}
 use Rattle.codegen.specs.Places.{Place, constant, local, temporary, above, in_register, short, source, fetch, target, keep, most_temporaries}
 use Rattle.codegen.specs.Operators.{stub, opposite, skip, Work, plain, divided, tested, work, left, right, working, with_constant, immediate, operating_by, operating, result, alone, applying, relation, sense, comparing, testing, always, address, locate, offset, reading}

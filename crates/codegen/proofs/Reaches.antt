@@ -17,7 +17,7 @@ use Rattle.language.specs.Core as C
 use Rattle.symbolic.specs.Symbolic.{Instruction, x0, sp, answer, request, opi, mv, sw, jump, jump_back, ecall, call}
 use Rattle.symbolic.specs.Fine.{Fine, AllFine, most_instructions}
 use Rattle.symbolic.proofs.AllFine.{fine_append}
-use Rattle.codegen.specs.Places.{Place, constant, local, temporary, above, local_word, source, fetch, target, keep, settle, move, bring, most_temporaries, most_locals_lem}
+use Rattle.codegen.specs.Places.{Place, constant, local, temporary, above, local_word, source, fetch, target, keep, settle, move, bring, most_temporaries, most_locals}
 use Rattle.codegen.specs.Operators.{skip, sense, operating, result, applying, relation, testing, reading, writing}
 use Rattle.codegen.specs.Expressions.{place_of, places_of, calling, deciding_by, code, codes, condition}
 use Rattle.codegen.specs.Statements.{leaving, over, otherwise, brought, answering, statement, block, clears, function_by, near_in, function}
@@ -44,7 +44,7 @@ tail_over : (near : Bool) (k : ℕ) (a b : List Instruction) → Within near (k 
 tail_over near k a b w = within_less near (let e = length-append a b in omega (arith, e)) w
 
 module _ (functions : List Function) (elements : ℕ) (few : elements ≤ most_elements_in_all) (entry : ℕ → ℕ)
-    (low : (f : ℕ) → f < length functions → entry f ≤ most_instructions) (takes : (f : ℕ) → f < length functions → (get_or functions f nothing).parameters ≤ most_parameters) (N : ℕ) (locals : N ≤ most_locals_lem) where
+    (low : (f : ℕ) → f < length functions → entry f ≤ most_instructions) (takes : (f : ℕ) → f < length functions → (get_or functions f nothing).parameters ≤ most_parameters) (N : ℕ) (locals : N ≤ most_locals) where
   there_result : (o : Unary) (pl : Place) (d : ℕ) → d < most_temporaries → There (result o pl d)
   there_result o (constant n) d h = apply_lt o n
   there_result o (local y) d h = h
@@ -292,7 +292,7 @@ module _ (functions : List Function) (elements : ℕ) (few : elements ≤ most_e
           fine_append (statement entry near s) _ (fine_statement s w.0 (head_in near (statement entry near s) (block entry near b) r))
           (fine_block b w.1 (tail_in near (statement entry near s) (block entry near b) r))
 
-    fine_clears : (first n : ℕ) → first + n ≤ most_locals_lem → AllFine (clears first n)
+    fine_clears : (first n : ℕ) → first + n ≤ most_locals → AllFine (clears first n)
     unfolding clears Fine
     fine_clears first zero h = tt
     fine_clears first (suc n) h = fine_append (clears first n) _ (fine_clears first n (omega arith)) ((tt, omega arith, small _ (omega arith)), tt)

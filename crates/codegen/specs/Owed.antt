@@ -4,7 +4,7 @@ use Rattle.language.specs.Tree as T
 use Rattle.language.specs.Core.{Array, Expr, Args, Stmt, Block, Function, Program}
 use Rattle.language.specs.Core as C
 use Rattle.language.specs.Rules.{most_elements_in_all, most_parameters}
-use Rattle.codegen.specs.Places.{most_locals_lem, most_temporaries}
+use Rattle.codegen.specs.Places.{most_locals, most_temporaries}
 
 -- The nodes of expressions and the statements, each of which costs 1 of fuel when it begins.
 
@@ -102,7 +102,7 @@ module _ (functions : List Function) (elements : ℕ) where
 
   pub record Proper (g : Function) : Type 0 where
     pub few : g.parameters ≤ most_parameters
-    pub locals : g.parameters + g.lets ≤ most_locals_lem
+    pub locals : g.parameters + g.lets ≤ most_locals
     pub body : RunsAll (g.parameters + g.lets) g.body
     pub short : size_of g.body ≤ most_nodes
 

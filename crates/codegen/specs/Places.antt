@@ -9,14 +9,14 @@ use Rattle.symbolic.specs.Symbolic.{Temporary, Reg, x0, reg, sp, answer, scratch
 -- The frame. All frames are of one size: word 0 is the return address, then come 64 locals, then the temporaries. The stack grows up from behind the
 -- largest block of arrays (16,384 words from 0x100000 on); sp is the frame of the activation that runs.
 
-abbrev pub most_locals_lem : ℕ
-most_locals_lem = 64
+abbrev pub most_locals : ℕ
+most_locals = 64
 
 abbrev pub most_temporaries : ℕ
 most_temporaries = 431
 
 abbrev pub frame_words : ℕ
-frame_words = 1 + most_locals_lem + most_temporaries
+frame_words = 1 + most_locals + most_temporaries
 
 abbrev pub frame_bytes : ℕ
 frame_bytes = 4 * frame_words
@@ -33,7 +33,7 @@ abbrev pub local_word : ℕ → ℕ
 local_word y = suc y
 
 abbrev pub temporary_word : ℕ → ℕ
-temporary_word d = suc most_locals_lem + d
+temporary_word d = suc most_locals + d
 
 -- the first temporaries are in registers; each has a word of the frame besides, where it is saved across a call
 abbrev pub in_registers : ℕ

@@ -4,7 +4,7 @@
 //   p, n                 where the header of a statement stands, and how many statements a block has
 //   at, out              where the code goes: before `at`
 ghost use Rattle.std.specs.Prelude.{◌≡◌, ◌≤◌, get_or};
-ghost use Rattle.compiler.specs.Standing.{first_end, behind as behindOf};
+ghost use Rattle.compiler.specs.Standing.{first_end, behind as behind_of};
 ghost use Rattle.compiler.specs.Post.{Ready};
 ghost use Rattle.compiler.specs.Blocks.{Answers, Statements, Blocks, Skips, PassesOver};
 

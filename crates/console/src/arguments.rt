@@ -1,7 +1,7 @@
 // The arguments: the command, and after it options, each with a value, and files, in any order.
 ghost use Rattle.std.specs.Prelude.{◌≡◌, ◌+◌, ◌<◌, ◌≤◌, ◌^◌, length, get_or, set};
 ghost use Rattle.language.specs.Tokens.{same, starts, is};
-ghost use Rattle.console.specs.Arguments.{command_of, place_of, run_takes, exec_takes, takes_of, files_of, line, wrong as wrongOf, is_option, valued, filed, named, see_of, ended, said};
+ghost use Rattle.console.specs.Arguments.{command_of, place_of, run_takes, exec_takes, takes_of, files_of, line, wrong as wrong_of, is_option, valued, filed, named, see_of, ended, said};
 
 #[derive(Clone, Copy)]
 pub enum Command {
@@ -208,7 +208,7 @@ fn give(given: &mut [usize], place: usize, i: usize)
 
 // The same, with something wrong at argument i.
 fn wrong(problem: u32, i: usize, s: Seen) -> Seen
-    ensures { result ≡ wrongOf problem i s }
+    ensures { result ≡ wrong_of problem i s }
 {
     Seen {
         problem,

@@ -86,9 +86,9 @@ module _ {text tree ws : List ℕ} {g i : ℕ} (f : FindsGlobal text tree ws g m
   unfolding main_of found global_entry ◌>>=◌
   no_main end e = record { by = rw (f.is, e) refl }
 
-  module _ (end : Place) {h : ℕ} (some-main : i ≡ 0 → ⊥) (eh : h ≡ word ws (2 * (i - 1))) where
+  module _ (end : Place) {h : ℕ} (some_main : i ≡ 0 → ⊥) (eh : h ≡ word ws (2 * (i - 1))) where
     the_global : global_of gs main_name ≡ some (global_at text tree ws (i - 1))
-    the_global = f.is ∙ entry_global text tree ws i some-main
+    the_global = f.is ∙ entry_global text tree ws i some_main
 
     abbrev place : Place
     place = word tree (h + 1)

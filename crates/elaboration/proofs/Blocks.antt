@@ -8,7 +8,7 @@ use Rattle.language.specs.Grammar.{most_open, expr_level}
 use Rattle.language.specs.Core.{Array, Expr, Args, Stmt, Block, Function}
 use Rattle.language.specs.Core as C
 use Rattle.language.specs.Rules.{most_parameters}
-use Rattle.flat.specs.Items.{most_operands_lem}
+use Rattle.flat.specs.Items.{most_operands}
 use Rattle.flat.specs.Fits.{operands, most, most_all, nests, nests_all}
 use Rattle.codegen.specs.Owed.{count, Inside, Callable, Runs, RunsAll}
 use Rattle.codegen.proofs.Bounds.{stmt_weight, block_weight}
@@ -23,14 +23,14 @@ all_operands b = most_all operands (λ f xs. operands (C.call f xs)) b
 module _ (functions : List Function) (elements n : ℕ) where
   pub record GoodStmt (a b d i j : ℕ) (s : Stmt) : Type 0 where
     pub runs : Runs functions elements n s
-    pub room : stmt_operands s ≤ most_operands_lem
+    pub room : stmt_operands s ≤ most_operands
     pub nesting : nests s + d ≤ most_open
     pub short : b + (i + stmt_weight s) ≤ a + j
 
   -- statements of a block, which is one of the d things
   pub record GoodBlock (a b d i j : ℕ) (s : Block) : Type 0 where
     pub runs : RunsAll functions elements n s
-    pub room : all_operands s ≤ most_operands_lem
+    pub room : all_operands s ≤ most_operands
     pub nesting : nests_all s + d ≤ suc most_open
     pub short : b + (i + block_weight s) ≤ a + j
 

@@ -30,7 +30,7 @@ module _ (functions : List Function) (elements n : ℕ) where
   combined_good (Row.and u) t at a b f g = both_wanted (Good functions elements n _ _ _ _) bool bool C.and at a b (good_and functions elements n t u f g)
   combined_good (Row.strict o u v) t at a b f g = strict_wanted (Good functions elements n _ _ _ _) o at a b (good_strict functions elements n t u v o f g)
 
-module _ (functions : List Function) (elements n : ℕ) (globals : List Global) (all_Known : AllKnown (parameters_of functions) elements globals)
+module _ (functions : List Function) (elements n : ℕ) (globals : List Global) (all_known : AllKnown (parameters_of functions) elements globals)
     (locals : List Local) (visible : Visible n locals) (tok : ℕ → Option Placed) (small : (i v : ℕ) → Has tok i (Token.number v) → v ≤ largest_number) where
   abbrev Yields : ℕ → ℕ → ℕ → ℕ → Typed → Type 0
   Yields = GoodTyped functions elements n
@@ -43,13 +43,13 @@ module _ (functions : List Function) (elements n : ℕ) (globals : List Global) 
   unfolding indexed
   element_good at x e o g q =
       then (wanted (Good functions elements n _ _ _ _) int at e g) λ v h.
-      then (array_known (parameters_of functions) all_Known at x) λ a l.
+      then (array_known (parameters_of functions) all_known at x) λ a l.
       kept (good_element functions elements n o l h q)
 
   call_good : {d i j k : ℕ} (at : Place) (x : Name) (es : List Typed) → d < most_open → GoodArgs functions elements n (d + 1) (i + 2) j (args_of es) → k ≡ j + 1 → All (Yields unary_level d i k) (called globals at x es)
   unfolding called
   call_good at x es o g q =
-      then (function_known (parameters_of functions) all_Known at x) λ s c.
+      then (function_known (parameters_of functions) all_known at x) λ s c.
       then (fitted (λ xs. Good functions elements n _ _ _ _ (C.call s.number xs)) globals at es s.parameters (λ e. good_call functions elements n o (callable functions elements c e) (rw e c.few) g q)) λ xs h.
       then anything λ t _.
       kept h

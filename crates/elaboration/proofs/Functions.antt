@@ -11,7 +11,7 @@ use Rattle.language.specs.Tokens.{Token, Placed, largest_number}
 use Rattle.language.specs.Grammar.{Has, IsBlock, IsParam, IsParamList, IsParams, IsResult, IsItem, IsItems}
 use Rattle.language.specs.Core.{Function}
 use Rattle.language.specs.Rules.{Global, Scope, parameters, block, function_from, functions_from, most_parameters}
-use Rattle.flat.specs.Items.{most_operands_lem}
+use Rattle.flat.specs.Items.{most_operands}
 use Rattle.flat.specs.Words.{most_nesting}
 use Rattle.flat.specs.Fits.{nests_all, block_operands}
 use Rattle.codegen.specs.Owed.{Proper, most_nodes}
@@ -24,7 +24,7 @@ use Rattle.elaboration.proofs.Statements.{Sound, Steps, block_good, parameters_g
 pub record GoodFunction (functions : List Function) (elements : ℕ) (g : Function) : Type 0 where
   pub proper : Proper functions elements g
   pub nesting : nests_all g.body ≤ most_nesting
-  pub operands : block_operands g.body ≤ most_operands_lem
+  pub operands : block_operands g.body ≤ most_operands
 
 -- a function has the parameters that it declares
 same_parameters : (globals : List Global) (at : Place) (ps : List Param) (r : Option Ty) (b : T.Block) → All (λ g. g.parameters ≡ length ps) (function_from globals at ps r b)
@@ -40,7 +40,7 @@ all_parameters globals (function at x ps r b ∷ is) =
     then (all_parameters globals is) λ fs q.
     kept (rw (p, q))
 
-module _ (functions : List Function) (elements : ℕ) (globals : List Global) (all_Known : AllKnown (parameters_of functions) elements globals)
+module _ (functions : List Function) (elements : ℕ) (globals : List Global) (all_known : AllKnown (parameters_of functions) elements globals)
     (tok : ℕ → Option Placed) (small : (i v : ℕ) → Has tok i (Token.number v) → v ≤ largest_number)
     (inside : (i : ℕ) (t : Token) → Has tok i t → i < most_nodes) where
   block_end : {d i j : ℕ} {b : T.Block} → IsBlock tok d i j b → j ≤ most_nodes
@@ -61,8 +61,8 @@ module _ (functions : List Function) (elements : ℕ) (globals : List Global) (a
 
   -- with as many locals as are counted at last
   body_good : {i j : ℕ} (r : Option Ty) {b : T.Block} → IsBlock tok 0 i j b → (s : Scope globals) → Sound globals s →
-      All (λ c. (n : ℕ) → Steps functions elements n globals all_Known tok small r s 1 i j c) (block globals r b s)
-  body_good r h s t = record { holds = λ c e n. (block_good functions elements n globals all_Known tok small r h s t).holds c e }
+      All (λ c. (n : ℕ) → Steps functions elements n globals all_known tok small r s 1 i j c) (block globals r b s)
+  body_good r h s t = record { holds = λ c e n. (block_good functions elements n globals all_known tok small r h s t).holds c e }
 
   -- its weight is at most the tokens from h on, where it begins
   function_good : {h i j : ℕ} (at : Place) (ps : List Param) (r : Option Ty) {b : T.Block} → h < i → IsBlock tok 0 i j b → length ps ≤ most_parameters →

@@ -12,7 +12,7 @@ use Rattle.language.specs.Tokens.{Token, Placed, largest_number}
 use Rattle.language.specs.Grammar.{most_open, expr_level, Has, IsExpr, IsArgs, IsStmt, IsStmts, IsBlock}
 use Rattle.language.specs.Core.{Function}
 use Rattle.language.specs.Core as C
-use Rattle.language.specs.Rules.{Global, Scope, Typed, leaves, gives, expr, exprs, stmt, block, parameters, most_locals_lem}
+use Rattle.language.specs.Rules.{Global, Scope, Typed, leaves, gives, expr, exprs, stmt, block, parameters, most_locals}
 use Rattle.elaboration.proofs.All.{All, kept, broken, then, anything, needed, so, given}
 use Rattle.elaboration.proofs.Declarations.{AllKnown, array_known, function_known}
 use Rattle.elaboration.proofs.Measures.{Good, GoodArgs}
@@ -25,9 +25,9 @@ use Rattle.elaboration.proofs.Blocks.{GoodStmt, GoodBlock, good_end, good_then, 
 -- the locals that are visible are among those counted, and these are not too many
 pub record Sound (globals : List Global) (s : Scope globals) : Type 0 where
   pub visible : Visible s.count s.visible
-  pub few : s.count ≤ most_locals_lem
+  pub few : s.count ≤ most_locals
 
-module _ (functions : List Function) (elements n : ℕ) (globals : List Global) (all_Known : AllKnown (parameters_of functions) elements globals)
+module _ (functions : List Function) (elements n : ℕ) (globals : List Global) (all_known : AllKnown (parameters_of functions) elements globals)
     (tok : ℕ → Option Placed) (small : (i v : ℕ) → Has tok i (Token.number v) → v ≤ largest_number) (result : Option Ty) where
   pub record Step (s : Scope globals) (d i j : ℕ) (c : C.Stmt × Scope globals) : Type 0 where
     pub grows : s.count ≤ c.1.count
@@ -36,7 +36,7 @@ module _ (functions : List Function) (elements n : ℕ) (globals : List Global) 
 
   pub record Steps (s : Scope globals) (d i j : ℕ) (r : C.Block × ℕ) : Type 0 where
     pub grows : s.count ≤ r.1
-    pub few : r.1 ≤ most_locals_lem
+    pub few : r.1 ≤ most_locals
     pub good : r.1 ≤ n → GoodBlock functions elements n s.count r.1 d i j r.0
 
   -- the value of an expression in a scope, if the function has all its locals
@@ -44,17 +44,17 @@ module _ (functions : List Function) (elements n : ℕ) (globals : List Global) 
   Value s d i j e = s.count ≤ n → Good functions elements n expr_level d i j e
 
   value : {d i j : ℕ} {e : T.Expr} (s : Scope globals) → Sound globals s → d ≤ most_open → IsExpr tok expr_level d i j e → All (λ v. Value s d i j v.expr) (expr globals s.visible e)
-  value s h o x = given (λ l. expr_good functions elements n globals all_Known s.visible (wider l h.visible) tok small x o)
+  value s h o x = given (λ l. expr_good functions elements n globals all_known s.visible (wider l h.visible) tok small x o)
 
   values : {d i j : ℕ} {es : T.Args} (s : Scope globals) → Sound globals s → d ≤ most_open → IsArgs tok d i j es → All (λ vs. s.count ≤ n → GoodArgs functions elements n d i j (args_of vs)) (exprs globals s.visible es)
-  values s h o x = given (λ l. args_good functions elements n globals all_Known s.visible (wider l h.visible) tok small x o)
+  values s h o x = given (λ l. args_good functions elements n globals all_known s.visible (wider l h.visible) tok small x o)
 
   -- a statement that declares nothing
   same : {s : Scope globals} {d i j : ℕ} {c : C.Stmt} → Sound globals s → (s.count ≤ n → GoodStmt functions elements n s.count s.count d i j c) → Step s d i j (c, s)
   same h g = record { grows = omega arith; sound = h; good = g }
 
   -- a statement whose blocks counted more
-  counted : {s : Scope globals} {d i j m : ℕ} {c : C.Stmt} → Sound globals s → s.count ≤ m → m ≤ most_locals_lem → (m ≤ n → GoodStmt functions elements n s.count m d i j c) → Step s d i j (c, record { visible = s.visible; count = m })
+  counted : {s : Scope globals} {d i j m : ℕ} {c : C.Stmt} → Sound globals s → s.count ≤ m → m ≤ most_locals → (m ≤ n → GoodStmt functions elements n s.count m d i j c) → Step s d i j (c, record { visible = s.visible; count = m })
   counted h l f g = record { grows = l; sound = record { visible = wider l h.visible; few = f }; good = g }
 
   left : {d i j : ℕ} (at : Place) (r : Option Ty) {s : Scope globals} → Sound globals s → d ≤ most_open → j ≡ i + 2 → All (λ c. Step s d i j (c, s)) (leaves globals r at)
@@ -93,7 +93,7 @@ module _ (functions : List Function) (elements n : ℕ) (globals : List Global) 
         then (value s h o f) λ y v.
         then (wanted (Value s _ _ _) int at j u) λ j' u'.
         then (wanted (Value s _ _ _) int at y v) λ y' v'.
-        then (array_known (parameters_of functions) all_Known at x) λ a within.
+        then (array_known (parameters_of functions) all_known at x) λ a within.
         kept (same h (λ m. good_store functions elements n o within (u' m) (v' m) g))
     stmt_good (IsStmt.when {p = at} w e b) s h o =
         then (value s h o e) λ y u.
@@ -119,7 +119,7 @@ module _ (functions : List Function) (elements n : ℕ) (globals : List Global) 
         kept (same h (λ l. good_emit functions elements n o (u' l) (omega arith) (omega (arith, g))))
     stmt_good (IsStmt.run {p = at} {x = x} w b l xs c f g) s h o =
         then (values s h (omega (arith, l)) xs) λ es u.
-        then (function_known (parameters_of functions) all_Known at x) λ f c.
+        then (function_known (parameters_of functions) all_known at x) λ f c.
         then (fitted (λ vs. s.count ≤ n → GoodStmt functions elements n s.count s.count _ _ _ (C.run f.number vs)) globals at es f.parameters (λ e m. good_run functions elements n l (callable functions elements c e) (rw e c.few) (u m) g)) λ vs k.
         kept (same h k)
 

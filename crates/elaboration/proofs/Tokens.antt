@@ -87,14 +87,14 @@ tokens_small (Reads.blank e r) = tokens_small r
 tokens_small (Reads.comment c e _ r) = tokens_small r
 tokens_small (Reads.token s e _ r) = Each.more (spells_small s) (tokens_small r)
 
-abbrev token_of_lem : Option Placed → Option Token
-token_of_lem o = map (λ (q : Placed). q.token) o
+abbrev token_of_here : Option Placed → Option Token
+token_of_here o = map (λ (q : Placed). q.token) o
 
 abbrev SmallIn : Option Token → Type 0
 SmallIn none = Unit {0}
 SmallIn (some t) = Small t
 
-nth_small : {ts : List Placed} → Each (λ q. Small q.token) ts → (i : ℕ) (t : Token) → token_of_lem (nth ts i) ≡ some t → Small t
+nth_small : {ts : List Placed} → Each (λ q. Small q.token) ts → (i : ℕ) (t : Token) → token_of_here (nth ts i) ≡ some t → Small t
 unfolding nth
 nth_small Each.none i t e = subst SmallIn e tt
 nth_small (Each.more h hs) zero t e = subst SmallIn e h

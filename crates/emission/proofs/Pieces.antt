@@ -82,9 +82,9 @@ module _ {at r : ℕ} {ws ws' : List ℕ} where
       Emits (fetch (placed p) w) at ws ws' r
   fetch_some w {p} {n} e h f = subst⁻¹ (λ (q : Place). Emits (fetch (placed q) w) at ws ws' r) e (fetch_nonzero n w h f)
 
-  pub fetch_local : (w : ℕ) {p : Place} {y : ℕ} → p ≡ At.Local y → EmitsAt (λ p. lw p sp (4 * (y + 1)) ∷ []) (4 + w) at ws ws' r →
+  pub fetch_local_lem : (w : ℕ) {p : Place} {y : ℕ} → p ≡ At.Local y → EmitsAt (λ p. lw p sp (4 * (y + 1)) ∷ []) (4 + w) at ws ws' r →
       Emits (fetch (placed p) w) at ws ws' r
-  fetch_local w {p} {y} e f = subst⁻¹ (λ (q : Place). Emits (fetch (placed q) w) at ws ws' r) e
+  fetch_local_lem w {p} {y} e f = subst⁻¹ (λ (q : Place). Emits (fetch (placed q) w) at ws ws' r) e
       (subst (λ (m : ℕ). Emits (lw (scratch w) sp (4 * m) ∷ []) at ws ws' r) (omega arith) (f.each (scratch w) refl))
 
   pub fetch_frame : (w : ℕ) {p : Place} {d : ℕ} → p ≡ At.Temporary d → 7 ≤ d → EmitsAt (λ p. lw p sp (4 * (65 + d)) ∷ []) (4 + w) at ws ws' r →

@@ -2,8 +2,8 @@
 ghost use Rattle.std.specs.Prelude.{◌≡◌, ◌∷◌, [], ◌++◌, ◌+◌, ◌*◌, ◌≤◌};
 ghost use Rattle.symbolic.specs.Symbolic.{sp, answer, mv, sw};
 ghost use Rattle.symbolic.specs.Fine.{far};
-ghost use Rattle.codegen.specs.Places.{frame_bytes, local_word, source as source_of, fetch as fetchOf, target as target_of, keep as keepOf};
-ghost use Rattle.codegen.specs.Expressions.{saves as savesOf, loads as loadsOf, registers_of, returning as returning_of, entering as enteringOf};
+ghost use Rattle.codegen.specs.Places.{frame_bytes, local_word, source as source_of, fetch as fetch_of, target as target_of, keep as keep_of};
+ghost use Rattle.codegen.specs.Expressions.{saves as saves_of, loads as loads_of, registers_of, returning as returning_of, entering as entering_of};
 ghost use Rattle.emission.specs.Tape.{Emits};
 ghost use Rattle.emission.specs.Macros.{placed};
 
@@ -23,7 +23,7 @@ pub const FRAME_BACK: u32 = 4294965312;
 
 // A value from its place to a word of memory, so many bytes behind the frame's start.
 pub fn stored(out: &mut [u32], at: usize, p: Place, n: u64) -> usize
-    ensures emits { Emits (fetchOf (placed p) 0 ++ (sw (source_of (placed p) 0) sp n ∷ [])) at out.old out.new result }
+    ensures emits { Emits (fetch_of (placed p) 0 ++ (sw (source_of (placed p) 0) sp n ∷ [])) at out.old out.new result }
     ensures within { result ≤ at }
 {
     let from = source(p, 0);
@@ -33,7 +33,7 @@ pub fn stored(out: &mut [u32], at: usize, p: Place, n: u64) -> usize
 
 // A value becomes argument i of a call.
 pub fn pass(out: &mut [u32], at: usize, p: Place, i: u32) -> usize
-    ensures emits { Emits (fetchOf (placed p) 0 ++ (sw (source_of (placed p) 0) sp (frame_bytes + 4 * local_word i) ∷ [])) at out.old out.new result }
+    ensures emits { Emits (fetch_of (placed p) 0 ++ (sw (source_of (placed p) 0) sp (frame_bytes + 4 * local_word i) ∷ [])) at out.old out.new result }
     ensures within { result ≤ at }
 {
     stored(out, at, p, FRAME_BYTES as u64 + 4 * (i as u64 + 1))
@@ -41,7 +41,7 @@ pub fn pass(out: &mut [u32], at: usize, p: Place, i: u32) -> usize
 
 // A value becomes local x.
 pub fn assign(out: &mut [u32], at: usize, p: Place, x: u32) -> usize
-    ensures emits { Emits (fetchOf (placed p) 0 ++ (sw (source_of (placed p) 0) sp (4 * local_word x) ∷ [])) at out.old out.new result }
+    ensures emits { Emits (fetch_of (placed p) 0 ++ (sw (source_of (placed p) 0) sp (4 * local_word x) ∷ [])) at out.old out.new result }
     ensures within { result ≤ at }
 {
     stored(out, at, p, 4 * (x as u64 + 1))
@@ -50,7 +50,7 @@ pub fn assign(out: &mut [u32], at: usize, p: Place, x: u32) -> usize
 // The first n temporaries from their registers to the frame.
 pub fn saves(out: &mut [u32], at: usize, n: u32) -> usize
     requires { n ≤ 7 }
-    ensures emits { Emits (savesOf n) at out.old out.new result }
+    ensures emits { Emits (saves_of n) at out.old out.new result }
     ensures within { result ≤ at }
 {
     if n == 0 {
@@ -64,7 +64,7 @@ pub fn saves(out: &mut [u32], at: usize, n: u32) -> usize
 // The first n temporaries from the frame to their registers.
 pub fn loads(out: &mut [u32], at: usize, n: u32) -> usize
     requires { n ≤ 7 }
-    ensures emits { Emits (loadsOf n) at out.old out.new result }
+    ensures emits { Emits (loads_of n) at out.old out.new result }
     ensures within { result ≤ at }
 {
     if n == 0 {
@@ -96,7 +96,7 @@ pub fn returning(out: &mut [u32], at: usize, d: u32) -> usize
 // A call of the function at position `to`, once its arguments are passed and temporaries are saved.
 pub fn entering(out: &mut [u32], at: usize, to: usize, d: u32) -> usize
     requires { (at ≤ far) × (to ≤ far) }
-    ensures emits { Emits (enteringOf to d) at out.old out.new result }
+    ensures emits { Emits (entering_of to d) at out.old out.new result }
     ensures within { result ≤ at }
 {
     let last = returning(out, at, d);
@@ -108,7 +108,7 @@ pub fn entering(out: &mut [u32], at: usize, to: usize, d: u32) -> usize
 // All of a call that follows its arguments.
 pub fn calling(out: &mut [u32], at: usize, to: usize, d: u32) -> usize
     requires { (at ≤ far) × (to ≤ far) }
-    ensures emits { Emits (savesOf (registers_of d) ++ enteringOf to d) at out.old out.new result }
+    ensures emits { Emits (saves_of (registers_of d) ++ entering_of to d) at out.old out.new result }
     ensures within { result ≤ at }
 {
     let n = registers(d);
@@ -118,7 +118,7 @@ pub fn calling(out: &mut [u32], at: usize, to: usize, d: u32) -> usize
 
 // A call's result becomes temporary d.
 pub fn answered(out: &mut [u32], at: usize, d: u32) -> usize
-    ensures emits { Emits (mv (target_of d) answer ∷ keepOf d) at out.old out.new result }
+    ensures emits { Emits (mv (target_of d) answer ∷ keep_of d) at out.old out.new result }
     ensures within { result ≤ at }
 {
     let to = target_of(d);

@@ -1,7 +1,7 @@
 // Elements: an array is given by its offset among all elements and its size. Scratch register 0 and an offset give an element's address.
 ghost use Rattle.std.specs.Prelude.{◌≡◌, ℕ, ◌^◌, ◌≤◌, ◌<◌};
 ghost use Rattle.symbolic.specs.Fine.{far};
-ghost use Rattle.codegen.specs.Operators.{address as address_of, inside as insideOf, index as index_of, indexed as indexedOf, locate as locateOf, offset as offset_of, reading as reading_of, writing as writingOf};
+ghost use Rattle.codegen.specs.Operators.{address as address_of, inside as inside_of, index as index_of, indexed as indexed_of, locate as locate_of, offset as offset_of, reading as reading_of, writing as writing_of};
 ghost use Rattle.emission.specs.Tape.{Emits};
 ghost use Rattle.emission.specs.Macros.{placed, array};
 
@@ -26,7 +26,7 @@ pub fn address(offset: u32, i: u32) -> u64
 
 // Whether an index is known to be inside.
 pub fn inside(size: u32, p: Place) -> bool
-    ensures { (o : ℕ) → result ≡ insideOf (array o size) (placed p) }
+    ensures { (o : ℕ) → result ≡ inside_of (array o size) (placed p) }
 {
     match p {
         Place::Constant(n) => n < size,
@@ -49,7 +49,7 @@ pub fn index(p: Place) -> u32
 // Tests an index against the size, which is in scratch register 1, and makes its address of it.
 pub fn indexed(out: &mut [u32], at: usize, offset: u32, p: Place) -> usize
     requires { at ≤ far }
-    ensures emits { Emits (indexedOf (array offset 0) (placed p)) at out.old out.new result }
+    ensures emits { Emits (indexed_of (array offset 0) (placed p)) at out.old out.new result }
     ensures within { result ≤ at }
 {
     let from = source(p, 0);
@@ -71,7 +71,7 @@ pub fn indexed(out: &mut [u32], at: usize, offset: u32, p: Place) -> usize
 // Makes an element's address.
 pub fn locate(out: &mut [u32], at: usize, offset: u32, size: u32, p: Place) -> usize
     requires { at ≤ far }
-    ensures emits { Emits (locateOf (array offset size) (placed p)) at out.old out.new result }
+    ensures emits { Emits (locate_of (array offset size) (placed p)) at out.old out.new result }
     ensures within { result ≤ at }
 {
     if inside(size, p) {
@@ -112,7 +112,7 @@ pub fn reading(out: &mut [u32], at: usize, offset: u32, size: u32, p: Place, d: 
 // A value becomes an element.
 pub fn writing(out: &mut [u32], at: usize, offset: u32, size: u32, p: Place, v: Place) -> usize
     requires { at ≤ far }
-    ensures emits { Emits (writingOf (array offset size) (placed p) (placed v)) at out.old out.new result }
+    ensures emits { Emits (writing_of (array offset size) (placed p) (placed v)) at out.old out.new result }
     ensures within { result ≤ at }
 {
     let from = source(v, 1);

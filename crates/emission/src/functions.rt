@@ -5,7 +5,7 @@ ghost use Rattle.processor.specs.declared.Cond.TheVariants.{Ne as NeOf};
 ghost use Rattle.symbolic.specs.Symbolic.{x0, ra, sp, answer, branch, call as call_of, opi, sw, ecall as ecall_of};
 ghost use Rattle.symbolic.specs.Fine.{far};
 ghost use Rattle.codegen.specs.Operators.{stub};
-ghost use Rattle.codegen.specs.Statements.{limit, leaving as leavingOf, clears as clearsOf};
+ghost use Rattle.codegen.specs.Statements.{limit, leaving as leaving_of, clears as clears_of};
 ghost use Rattle.emission.specs.Tape.{Emits};
 
 use crate::jumps::RA;
@@ -21,7 +21,7 @@ pub const ACTIVATIONS_STUB: usize = 12;
 
 // The way out of a function.
 pub fn leaving(out: &mut [u32], at: usize) -> usize
-    ensures emits { Emits leavingOf at out.old out.new result }
+    ensures emits { Emits leaving_of at out.old out.new result }
     ensures within { result ≤ at }
 {
     let last = put(out, at, Instr::Jalr(0, RA, 0));
@@ -30,7 +30,7 @@ pub fn leaving(out: &mut [u32], at: usize) -> usize
 
 // The way out with 0 as the result.
 pub fn leaving_zero(out: &mut [u32], at: usize) -> usize
-    ensures emits { Emits (opi AddOf answer x0 0 ∷ leavingOf) at out.old out.new result }
+    ensures emits { Emits (opi AddOf answer x0 0 ∷ leaving_of) at out.old out.new result }
     ensures within { result ≤ at }
 {
     let last = leaving(out, at);
@@ -40,7 +40,7 @@ pub fn leaving_zero(out: &mut [u32], at: usize) -> usize
 // The n locals from the first let on become 0.
 pub fn clears(out: &mut [u32], at: usize, first: u32, n: u32) -> usize
     requires { (first ≤ 64) × (n ≤ 64) }
-    ensures emits { Emits (clearsOf first n) at out.old out.new result }
+    ensures emits { Emits (clears_of first n) at out.old out.new result }
     ensures within { result ≤ at }
 {
     if n == 0 {

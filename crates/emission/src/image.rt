@@ -5,8 +5,8 @@ ghost use Rattle.word.specs.Bytes.{bytes_of, bytes_of_words};
 ghost use Rattle.processor.specs.declared.Alu.TheVariants.{Add as AddOf};
 ghost use Rattle.symbolic.specs.Symbolic.{x0, request, opi, ecall as ecall_of};
 ghost use Rattle.symbolic.specs.Fine.{far};
-ghost use Rattle.codegen.specs.Operators.{trapping as trappingOf};
-ghost use Rattle.codegen.specs.Image.{starting as startingOf, traps as trapsOf};
+ghost use Rattle.codegen.specs.Operators.{trapping as trapping_of};
+ghost use Rattle.codegen.specs.Image.{starting as starting_of, traps as traps_of};
 ghost use Rattle.emission.specs.Tape.{Emits};
 
 use crate::functions::{LIMIT, ecall};
@@ -41,7 +41,7 @@ pub fn exiting(out: &mut [u32], at: usize) -> usize
 // The first instructions; main is at position `main`.
 pub fn starting(out: &mut [u32], at: usize, main: usize) -> usize
     requires { (at ≤ far) × (main ≤ far) }
-    ensures emits { Emits (startingOf main) at out.old out.new result }
+    ensures emits { Emits (starting_of main) at out.old out.new result }
     ensures within { result ≤ at }
 {
     let last = exiting(out, at);
@@ -54,7 +54,7 @@ pub fn starting(out: &mut [u32], at: usize, main: usize) -> usize
 
 // The stub of trap t.
 pub fn trapping(out: &mut [u32], at: usize, t: u32) -> usize
-    ensures emits { Emits (trappingOf t) at out.old out.new result }
+    ensures emits { Emits (trapping_of t) at out.old out.new result }
     ensures within { result ≤ at }
 {
     let last = ecall(out, at);
@@ -64,7 +64,7 @@ pub fn trapping(out: &mut [u32], at: usize, t: u32) -> usize
 
 // The three stubs.
 pub fn traps(out: &mut [u32], at: usize) -> usize
-    ensures emits { Emits trapsOf at out.old out.new result }
+    ensures emits { Emits traps_of at out.old out.new result }
     ensures within { result ≤ at }
 {
     let last = trapping(out, at, TOO_MANY_ACTIVATIONS);

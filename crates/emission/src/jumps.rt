@@ -2,10 +2,10 @@
 ghost use Rattle.std.specs.Prelude.{◌≡◌, ◌∷◌, [], suc, ◌-◌, ◌≤◌};
 ghost use Rattle.processor.specs.declared.Cond.TheVariants.{Ne as NeOf};
 ghost use Rattle.processor.specs.declared.Instr.TheVariants.{Jal};
-ghost use Rattle.symbolic.specs.Symbolic.{x0, answer, jump as jumpOf};
+ghost use Rattle.symbolic.specs.Symbolic.{x0, answer, jump as jump_of};
 ghost use Rattle.symbolic.specs.Fine.{far};
 ghost use Rattle.symbolic.specs.Real.{distance};
-ghost use Rattle.codegen.specs.Operators.{opposite as oppositeOf, skip as skipOf, sense as senseOf, testing as testingOf, comparing as comparingOf, always as alwaysOf};
+ghost use Rattle.codegen.specs.Operators.{opposite as opposite_of, skip as skip_of, sense as sense_of, testing as testing_of, comparing as comparing_of, always as always_of};
 ghost use Rattle.emission.specs.Tape.{Puts, Emits};
 ghost use Rattle.emission.specs.Macros.{placed, EmitsFor};
 
@@ -18,7 +18,7 @@ pub const RA: u32 = 1;
 
 // The comparison that holds where this one doesn't.
 pub fn opposite(c: Cond) -> Cond
-    ensures { result ≡ oppositeOf c }
+    ensures { result ≡ opposite_of c }
 {
     match c {
         Cond::Eq => Cond::Ne,
@@ -32,7 +32,7 @@ pub fn opposite(c: Cond) -> Cond
 
 // The comparison that holds where the truth of this one is t.
 pub fn sense(t: bool, c: Cond) -> Cond
-    ensures { result ≡ senseOf t c }
+    ensures { result ≡ sense_of t c }
 {
     if t { c } else { opposite(c) }
 }
@@ -40,7 +40,7 @@ pub fn sense(t: bool, c: Cond) -> Cond
 // Jumps to position `to`, over all that stands before it.
 pub fn jump(out: &mut [u32], at: usize, to: usize) -> usize
     requires { (at ≤ to) × (to ≤ far) }
-    ensures emits { Emits (jumpOf (suc (to - at)) ∷ []) at out.old out.new result }
+    ensures emits { Emits (jump_of (suc (to - at)) ∷ []) at out.old out.new result }
     ensures within { result ≤ at }
 {
     let by = reach(at, to);
@@ -50,7 +50,7 @@ pub fn jump(out: &mut [u32], at: usize, to: usize) -> usize
 // Jumps there if a comparison holds: near by a branch, far by a branch around a jump.
 pub fn skip(out: &mut [u32], at: usize, near: bool, c: Cond, r: u32, s: u32, to: usize) -> usize
     requires { (at ≤ to) × (to ≤ far) }
-    ensures emits_for { EmitsFor (λ p q. skipOf near c p q (to - at)) r s at out.old out.new result }
+    ensures emits_for { EmitsFor (λ p q. skip_of near c p q (to - at)) r s at out.old out.new result }
     ensures within { result ≤ at }
 {
     if near {
@@ -66,7 +66,7 @@ pub fn skip(out: &mut [u32], at: usize, near: bool, c: Cond, r: u32, s: u32, to:
 // Jumps where a value's truth is t.
 pub fn testing(out: &mut [u32], at: usize, near: bool, t: bool, p: Place, to: usize) -> usize
     requires { (at ≤ to) × (to ≤ far) }
-    ensures emits { Emits (testingOf near t (placed p) (to - at)) at out.old out.new result }
+    ensures emits { Emits (testing_of near t (placed p) (to - at)) at out.old out.new result }
     ensures within { result ≤ at }
 {
     let c = sense(t, Cond::Ne);
@@ -78,7 +78,7 @@ pub fn testing(out: &mut [u32], at: usize, near: bool, t: bool, p: Place, to: us
 // Jumps where the truth of a call's result is t.
 pub fn testing_answer(out: &mut [u32], at: usize, near: bool, t: bool, to: usize) -> usize
     requires { (at ≤ to) × (to ≤ far) }
-    ensures emits { Emits (skipOf near (senseOf t NeOf) answer x0 (to - at)) at out.old out.new result }
+    ensures emits { Emits (skip_of near (sense_of t NeOf) answer x0 (to - at)) at out.old out.new result }
     ensures within { result ≤ at }
 {
     let c = sense(t, Cond::Ne);
@@ -98,7 +98,7 @@ pub fn comparing(
     to: usize,
 ) -> usize
     requires { (at ≤ to) × (to ≤ far) }
-    ensures emits { Emits (comparingOf near t c turned (placed p) (placed q) (to - at)) at out.old out.new result }
+    ensures emits { Emits (comparing_of near t c turned (placed p) (placed q) (to - at)) at out.old out.new result }
     ensures within { result ≤ at }
 {
     let cond = sense(t, c);
@@ -117,7 +117,7 @@ pub fn comparing(
 // A constant's truth is known.
 pub fn always(out: &mut [u32], at: usize, t: bool, n: u32, to: usize) -> usize
     requires { (at ≤ to) × (to ≤ far) }
-    ensures emits { Emits (alwaysOf t n (to - at)) at out.old out.new result }
+    ensures emits { Emits (always_of t n (to - at)) at out.old out.new result }
     ensures within { result ≤ at }
 {
     if t {

@@ -1,7 +1,7 @@
 // Where values are: constants made, operands fetched, results kept.
 ghost use Rattle.std.specs.Prelude.{◌≡◌, ◌∷◌, [], ◌++◌, ◌+◌, ◌*◌, ◌%◌, ◌^◌, ◌≤◌, ◌<◌};
 ghost use Rattle.symbolic.specs.Symbolic.{number, sp, lw, sw};
-ghost use Rattle.codegen.specs.Places.{short as short_of, upper_of, lower_of, constant_to, source as source_of, fetch as fetchOf, target as target_of, keep as keepOf, settle as settleOf, move as move_of, bring as bringOf};
+ghost use Rattle.codegen.specs.Places.{short as short_of, upper_of, lower_of, constant_to, source as source_of, fetch as fetch_of, target as target_of, keep as keep_of, settle as settle_of, move as move_of, bring as bring_of};
 ghost use Rattle.emission.specs.Tape.{Emits};
 ghost use Rattle.emission.specs.Macros.{placed, EmitsAt, EmitsOne};
 
@@ -101,7 +101,7 @@ pub fn source(p: Place, w: u32) -> u32
 // Fetches an operand.
 pub fn fetch(out: &mut [u32], at: usize, p: Place, w: u32) -> usize
     requires { w < 2 }
-    ensures emits { Emits (fetchOf (placed p) w) at out.old out.new result }
+    ensures emits { Emits (fetch_of (placed p) w) at out.old out.new result }
     ensures within { result ≤ at }
 {
     match p {
@@ -133,7 +133,7 @@ pub fn target_of(d: u32) -> u32
 
 // Keeps it there.
 pub fn keep(out: &mut [u32], at: usize, d: u32) -> usize
-    ensures emits { Emits (keepOf d) at out.old out.new result }
+    ensures emits { Emits (keep_of d) at out.old out.new result }
     ensures within { result ≤ at }
 {
     if d < IN_REGISTERS {
@@ -144,7 +144,7 @@ pub fn keep(out: &mut [u32], at: usize, d: u32) -> usize
 
 // One instruction on an operand, whose result becomes temporary d.
 pub fn kept(out: &mut [u32], at: usize, p: Place, d: u32, i: Instr) -> usize
-    ensures emits_one { EmitsOne (λ x. fetchOf (placed p) 0 ++ (x ∷ keepOf d)) i at out.old out.new result }
+    ensures emits_one { EmitsOne (λ x. fetch_of (placed p) 0 ++ (x ∷ keep_of d)) i at out.old out.new result }
     ensures within { result ≤ at }
 {
     let end = keep(out, at, d);
@@ -154,7 +154,7 @@ pub fn kept(out: &mut [u32], at: usize, p: Place, d: u32, i: Instr) -> usize
 
 // 0 or 1 becomes temporary d.
 pub fn settle(out: &mut [u32], at: usize, v: u32, d: u32) -> usize
-    ensures emits { Emits (settleOf v d) at out.old out.new result }
+    ensures emits { Emits (settle_of v d) at out.old out.new result }
     ensures within { result ≤ at }
 {
     let to = target_of(d);
@@ -178,7 +178,7 @@ pub fn carry(out: &mut [u32], at: usize, p: Place, d: u32) -> usize
 
 // A value from its place to the register of results.
 pub fn bring(out: &mut [u32], at: usize, p: Place) -> usize
-    ensures emits { Emits (bringOf (placed p)) at out.old out.new result }
+    ensures emits { Emits (bring_of (placed p)) at out.old out.new result }
     ensures within { result ≤ at }
 {
     match p {

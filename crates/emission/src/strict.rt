@@ -2,12 +2,12 @@
 ghost use Rattle.std.specs.Prelude.{◌≡◌, ◌∷◌, ◌-◌, ◌≤◌};
 ghost use Rattle.processor.specs.declared.Alu.TheVariants.{Add as AddOf};
 ghost use Rattle.processor.specs.declared.Cond.TheVariants.{Ne as NeOf};
-ghost use Rattle.symbolic.specs.Symbolic.{x0, op, opi, branch, jump as jumpOf, call as call_of};
+ghost use Rattle.symbolic.specs.Symbolic.{x0, op, opi, branch, jump as jump_of, call as call_of};
 ghost use Rattle.symbolic.specs.Fine.{far};
-ghost use Rattle.codegen.specs.Places.{short as short_of, target as target_of, keep as keepOf};
+ghost use Rattle.codegen.specs.Places.{short as short_of, target as target_of, keep as keep_of};
 ghost use Rattle.word.specs.Choice.{pick};
 ghost use Rattle.std.proofs.Math.Option.{some, none};
-ghost use Rattle.codegen.specs.Operators.{stub, work as workOf, working as workingOf, relation as relationOf, with_constant, immediate as immediate_of, operating as operatingOf};
+ghost use Rattle.codegen.specs.Operators.{stub, work as work_of, working as working_of, relation as relation_of, with_constant, immediate as immediate_of, operating as operating_of};
 ghost use Rattle.codegen.specs.Expressions.{deciding_by};
 ghost use Rattle.emission.specs.Tape.{Emits};
 ghost use Rattle.emission.specs.Macros.{placed, EmitsFor, EmitsAny, strict_of, worked, related, immediately};
@@ -25,7 +25,7 @@ pub const DIVISION_STUB: usize = 6;
 
 // What an operator is as a value.
 pub fn work(o: u32) -> Work
-    ensures { worked result ≡ workOf (strict_of o) }
+    ensures { worked result ≡ work_of (strict_of o) }
 {
     match o {
         EQ => Work::Tested(Cond::Eq, false),
@@ -44,7 +44,7 @@ pub fn work(o: u32) -> Work
 
 // What it is as a condition.
 pub fn relation(o: u32) -> Relation
-    ensures { related result ≡ relationOf (strict_of o) }
+    ensures { related result ≡ relation_of (strict_of o) }
 {
     match o {
         EQ => Relation::One(Cond::Eq, false),
@@ -104,7 +104,7 @@ pub fn immediate(o: u32, q: Place) -> Immediate
 
 // One instruction.
 pub fn plain(out: &mut [u32], at: usize, o: Alu, r: u32, s: u32, d: u32) -> usize
-    ensures emits_for { EmitsFor (λ p q. op o (target_of d) p q ∷ keepOf d) r s at out.old out.new result }
+    ensures emits_for { EmitsFor (λ p q. op o (target_of d) p q ∷ keep_of d) r s at out.old out.new result }
     ensures within { result ≤ at }
 {
     let to = target_of(d);
@@ -115,7 +115,7 @@ pub fn plain(out: &mut [u32], at: usize, o: Alu, r: u32, s: u32, d: u32) -> usiz
 // One instruction behind a test of the divisor.
 pub fn divided(out: &mut [u32], at: usize, o: Alu, r: u32, s: u32, d: u32) -> usize
     requires { at ≤ far }
-    ensures emits_for { EmitsFor (λ p q. branch NeOf q x0 2 ∷ call_of (stub 1) ∷ op o (target_of d) p q ∷ keepOf d) r s at out.old out.new result }
+    ensures emits_for { EmitsFor (λ p q. branch NeOf q x0 2 ∷ call_of (stub 1) ∷ op o (target_of d) p q ∷ keep_of d) r s at out.old out.new result }
     ensures within { result ≤ at }
 {
     let last = plain(out, at, o, r, s, d);
@@ -128,7 +128,7 @@ pub fn divided(out: &mut [u32], at: usize, o: Alu, r: u32, s: u32, d: u32) -> us
 // 1 where a comparison holds, and else 0.
 pub fn tested(out: &mut [u32], at: usize, c: Cond, r: u32, s: u32, d: u32) -> usize
     requires { at ≤ far }
-    ensures emits_for { EmitsFor (λ p q. branch c p q 3 ∷ opi AddOf (target_of d) x0 0 ∷ jumpOf 2 ∷ opi AddOf (target_of d) x0 1 ∷ keepOf d) r s at out.old out.new result }
+    ensures emits_for { EmitsFor (λ p q. branch c p q 3 ∷ opi AddOf (target_of d) x0 0 ∷ jump_of 2 ∷ opi AddOf (target_of d) x0 1 ∷ keep_of d) r s at out.old out.new result }
     ensures within { result ≤ at }
 {
     let to = target_of(d);
@@ -144,7 +144,7 @@ pub fn tested(out: &mut [u32], at: usize, c: Cond, r: u32, s: u32, d: u32) -> us
 // An operator on two registers, whose result becomes temporary d.
 pub fn working(out: &mut [u32], at: usize, o: u32, r: u32, s: u32, d: u32) -> usize
     requires { at ≤ far }
-    ensures emits_for { EmitsFor (λ p q. workingOf (workOf (strict_of o)) p q d) r s at out.old out.new result }
+    ensures emits_for { EmitsFor (λ p q. working_of (work_of (strict_of o)) p q d) r s at out.old out.new result }
     ensures within { result ≤ at }
 {
     let w = work(o);
@@ -168,7 +168,7 @@ pub fn working(out: &mut [u32], at: usize, o: u32, r: u32, s: u32, d: u32) -> us
 // The value of an operator becomes temporary d.
 pub fn operating(out: &mut [u32], at: usize, o: u32, p: Place, q: Place, d: u32) -> usize
     requires { at ≤ far }
-    ensures emits { Emits (operatingOf (strict_of o) (placed p) (placed q) d) at out.old out.new result }
+    ensures emits { Emits (operating_of (strict_of o) (placed p) (placed q) d) at out.old out.new result }
     ensures within { result ≤ at }
 {
     let i = immediate(o, q);
@@ -200,7 +200,7 @@ pub fn deciding(
     to: usize,
 ) -> usize
     requires { (at ≤ to) × (to ≤ far) }
-    ensures emits_any { EmitsAny (λ entry. deciding_by entry near (relationOf (strict_of o)) t (strict_of o) (placed p) (placed q) d (to - at)) at out.old out.new result }
+    ensures emits_any { EmitsAny (λ entry. deciding_by entry near (relation_of (strict_of o)) t (strict_of o) (placed p) (placed q) d (to - at)) at out.old out.new result }
     ensures within { result ≤ at }
 {
     let one = relation(o);

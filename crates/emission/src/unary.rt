@@ -1,8 +1,8 @@
 // The unary operators, by their numbers in the flat form's table. Of a constant the result is one.
 ghost use Rattle.std.specs.Prelude.{◌≡◌, ◌∷◌, ◌++◌, ◌≤◌};
-ghost use Rattle.language.specs.Meaning.{apply as applyOf};
-ghost use Rattle.codegen.specs.Places.{source as source_of, fetch as fetchOf, target as target_of, keep as keepOf};
-ghost use Rattle.codegen.specs.Operators.{result as result_of, alone as aloneOf, applying as applyingOf};
+ghost use Rattle.language.specs.Meaning.{apply as apply_of};
+ghost use Rattle.codegen.specs.Places.{source as source_of, fetch as fetch_of, target as target_of, keep as keep_of};
+ghost use Rattle.codegen.specs.Operators.{result as result_of, alone as alone_of, applying as applying_of};
 ghost use Rattle.emission.specs.Tape.{Emits};
 ghost use Rattle.emission.specs.Macros.{placed, unary_of};
 
@@ -14,7 +14,7 @@ use word::arithmetic::neg;
 
 // What an operator makes of a constant.
 pub fn apply(o: u32, n: u32) -> u32
-    ensures { result ≡ applyOf (unary_of o) n }
+    ensures { result ≡ apply_of (unary_of o) n }
 {
     if o == NEGATE {
         return neg(n);
@@ -35,7 +35,7 @@ pub fn result(o: u32, p: Place, d: u32) -> Place
 
 // An operator's one instruction on an operand, whose result becomes temporary d.
 pub fn alone(out: &mut [u32], at: usize, o: u32, p: Place, d: u32) -> usize
-    ensures emits { Emits (fetchOf (placed p) 0 ++ (aloneOf (unary_of o) (target_of d) (source_of (placed p) 0) ∷ keepOf d)) at out.old out.new result }
+    ensures emits { Emits (fetch_of (placed p) 0 ++ (alone_of (unary_of o) (target_of d) (source_of (placed p) 0) ∷ keep_of d)) at out.old out.new result }
     ensures within { result ≤ at }
 {
     let to = target_of(d);
@@ -48,7 +48,7 @@ pub fn alone(out: &mut [u32], at: usize, o: u32, p: Place, d: u32) -> usize
 
 // The code that an operator has.
 pub fn applying(out: &mut [u32], at: usize, o: u32, p: Place, d: u32) -> usize
-    ensures emits { Emits (applyingOf (unary_of o) (placed p) d) at out.old out.new result }
+    ensures emits { Emits (applying_of (unary_of o) (placed p) d) at out.old out.new result }
     ensures within { result ≤ at }
 {
     match p {

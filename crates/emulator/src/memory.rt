@@ -1,7 +1,7 @@
 // Memory: 2 MiB of bytes that the caller lends, multi-byte items lowest byte first (document 03 §1), and what loads and stores do to it (§3, §4).
 ghost use Rattle.std.specs.Prelude.{◌≡◌, ◌+◌, ◌<◌, ◌≤◌, length};
 ghost use Rattle.processor.specs.Machine.{memory_bytes, byte_at, half_at, word_at};
-ghost use Rattle.processor.specs.Execute.{size_of, reaches as reachesOf, read_at, write_at};
+ghost use Rattle.processor.specs.Execute.{size_of, reaches as reaches_of, read_at, write_at};
 
 use processor::Width;
 use word::bits::sign_extend;
@@ -33,7 +33,7 @@ pub fn word_at(memory: &[u8], i: usize) -> u32
 
 // Whether a load or a store of this width may touch what lies there: aligned, and in the upper half of memory.
 pub fn reaches(s: Width, at: u32) -> bool
-    ensures { result ≡ reachesOf s at }
+    ensures { result ≡ reaches_of s at }
 {
     if at < 0x100000 {
         return false;

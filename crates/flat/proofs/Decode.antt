@@ -11,7 +11,7 @@ use Rattle.flat.specs.Items.{Kind, number, local, element, call, unary, strict, 
 use Rattle.flat.specs.Items as I
 use Rattle.flat.specs.Statements.{Stmt, put, store, choose, while, leave, give, emit, run, Block, end, then, flat, flats}
 use Rattle.flat.specs.Statements as S
-use Rattle.flat.specs.Words.{word, item_words_lem, unaries, stricts, kind_of, item_of, items_of, header_words, statement_of, sequence_of, block_of, unary_number, strict_number, kind_words, items_words, count, items_length, rest_length, block_length, stmt_words, block_words}
+use Rattle.flat.specs.Words.{word, words_per_item, unaries, stricts, kind_of, item_of, items_of, header_words, statement_of, sequence_of, block_of, unary_number, strict_number, kind_words, items_words, count, items_length, rest_length, block_length, stmt_words, block_words}
 use Rattle.flat.specs.Fits.{nests, nests_all}
 
 unary_back : (o : Unary) → get_or unaries (unary_number o) I.unknown ≡ unary o
@@ -46,7 +46,7 @@ item_back (or n) c more = refl
 item_back join c more = refl
 item_back I.unknown c more = refl
 
-item_drop : (k : Kind) (c : ℕ) (more : List ℕ) → drop item_words_lem (kind_words k c more) ≡ more
+item_drop : (k : Kind) (c : ℕ) (more : List ℕ) → drop words_per_item (kind_words k c more) ≡ more
 unfolding kind_words
 item_drop (number n) c more = refl
 item_drop (local x) c more = refl
@@ -77,10 +77,10 @@ past_header = record { is = refl }
 pub past_items : (is : List Item) (more : List ℕ) → Past (items_length is) (items_words is more) more
 unfolding items_words
 past_items [] more = record { is = refl }
-past_items (i ∷ is) more = four (onward {n = item_words_lem} (record { is = item_drop i.kind i.charge (items_words is more) }) (past_items is more))
+past_items (i ∷ is) more = four (onward {n = words_per_item} (record { is = item_drop i.kind i.charge (items_words is more) }) (past_items is more))
   where
-    four : {ws : List ℕ} → Past (item_words_lem + items_length is) ws more → Past (items_length (i ∷ is)) ws more
-    four {ws} x = record { is = ap (λ (j : ℕ). drop j ws) {x = items_length (i ∷ is)} {y = item_words_lem + items_length is} (omega arith) ∙ x.is }
+    four : {ws : List ℕ} → Past (words_per_item + items_length is) ws more → Past (items_length (i ∷ is)) ws more
+    four {ws} x = record { is = ap (λ (j : ℕ). drop j ws) {x = items_length (i ∷ is)} {y = words_per_item + items_length is} (omega arith) ∙ x.is }
 
 mutual
   unfolding rest_length stmt_words

@@ -7,9 +7,9 @@ use lib.ListN.{length, drop, length-append}
 use borrow.Author.Tests.{lt-ltb, le-ltb}
 use Rattle.language.specs.Core.{Expr, Args}
 use Rattle.language.specs.Core as C
-use Rattle.language.specs.Rules.{most_locals_lem}
+use Rattle.language.specs.Rules.{most_locals}
 use Rattle.language.specs.Meaning.{World, Result, Act, bind, value, branch, apply, operate, read, fetch, eval, evals}
-use Rattle.flat.specs.Items.{number, local, element, call, unary, strict, and, or, join, Item, item, size, sizes, code, codes, most_operands_lem, begins, popped, Onward, push, step, scan}
+use Rattle.flat.specs.Items.{number, local, element, call, unary, strict, and, or, join, Item, item, size, sizes, code, codes, most_operands, begins, popped, Onward, push, step, scan}
 use Rattle.flat.specs.Fits.{operands, operands_all, arguments, locals, locals_all}
 use Rattle.flat.proofs.Bind.{bind_assoc, bind_ext, begins_more}
 
@@ -44,11 +44,11 @@ some_operand (C.strict o a b) = omega (arith, some_operand a)
 some_operand (C.and a b) = omega (arith, some_operand a)
 some_operand (C.or a b) = omega (arith, some_operand a)
 
-push_in : (vs : List ℕ) (k : Onward) (v : ℕ) (ls : List ℕ) (w : World) → length vs < most_operands_lem → push vs k v ls w ≡ k 0 (v ∷ vs) ls w
+push_in : (vs : List ℕ) (k : Onward) (v : ℕ) (ls : List ℕ) (w : World) → length vs < most_operands → push vs k v ls w ≡ k 0 (v ∷ vs) ls w
 unfolding push
 push_in vs k v ls w h = rw (lt-ltb _ _ h)
 
-push_out : (r : Result ℕ) (vs : List ℕ) (k : Onward) → length vs < most_operands_lem → bind r (push vs k) ≡ bind r (λ v. k 0 (v ∷ vs))
+push_out : (r : Result ℕ) (vs : List ℕ) (k : Onward) → length vs < most_operands → bind r (push vs k) ≡ bind r (λ v. k 0 (v ∷ vs))
 push_out r vs k h = bind_ext r (λ v ls w. push_in vs k v ls w h)
 
 -- Skipping goes over all items of an expression.
@@ -81,21 +81,21 @@ module _ (invoke : ℕ → List ℕ → Act ℕ) where
     skip_codes (C.more e xs) f j k is m n vs ls w h = skip_code e _ _ (sizes xs + m) n vs ls w (omega arith) ∙ skip_codes xs f _ _ is m _ vs ls w refl
 
 -- What a call does for the scan and for the evaluation: the same, where the locals find room. Function f has `lets f` locals besides its arguments.
-pub record Agree (lets : ℕ → ℕ) (invoke call-fn : ℕ → List ℕ → Act ℕ) : Type 0 where
-  pub same : (f : ℕ) (vs ls : List ℕ) (w : World) → length vs + lets f ≤ most_locals_lem → invoke f vs ls w ≡ call-fn f vs ls w
+pub record Agree (lets : ℕ → ℕ) (invoke call_fn : ℕ → List ℕ → Act ℕ) : Type 0 where
+  pub same : (f : ℕ) (vs ls : List ℕ) (w : World) → length vs + lets f ≤ most_locals → invoke f vs ls w ≡ call_fn f vs ls w
 
-module _ (room : ℕ) (lets : ℕ → ℕ) (invoke call-fn : ℕ → List ℕ → Act ℕ) (agree : Agree lets invoke call-fn) where
+module _ (room : ℕ) (lets : ℕ → ℕ) (invoke call_fn : ℕ → List ℕ → Act ℕ) (agree : Agree lets invoke call_fn) where
   abbrev ev : Expr → Act ℕ
-  ev e = eval room call-fn e
+  ev e = eval room call_fn e
 
   abbrev evs : Args → Act (List ℕ)
-  evs xs = evals room call-fn xs
+  evs xs = evals room call_fn xs
 
   abbrev sc : List Item → Onward
   sc is = scan invoke is
 
   -- the right side's items are scanned, or skipped
-  module _ (b : Expr) (is : List Item) (vs : List ℕ) (h : length vs < most_operands_lem)
+  module _ (b : Expr) (is : List Item) (vs : List ℕ) (h : length vs < most_operands)
       (ih : (ls : List ℕ) (w : World) → sc (code b 0 (item 0 join ∷ is)) 0 vs ls w ≡ bind (ev b ls w) (λ v. sc (item 0 join ∷ is) 0 (v ∷ vs))) where
     joined : (v : ℕ) (ls : List ℕ) (w : World) → sc (item 0 join ∷ is) 0 (v ∷ vs) ls w ≡ sc is 0 (v ∷ vs) ls w
     unfolding scan step begins bind
@@ -121,7 +121,7 @@ module _ (room : ℕ) (lets : ℕ → ℕ) (invoke call-fn : ℕ → List ℕ �
     unfolding code eval scan step begins bind operands arguments locals onto
 
     -- k nodes begin, the expression is evaluated, and the scan goes on with its value
-    pub scan_code : (e : Expr) (k : ℕ) (is : List Item) (vs ls : List ℕ) (w : World) → length vs + operands e ≤ most_operands_lem → locals lets e ≤ most_locals_lem →
+    pub scan_code : (e : Expr) (k : ℕ) (is : List Item) (vs ls : List ℕ) (w : World) → length vs + operands e ≤ most_operands → locals lets e ≤ most_locals →
         sc (code e k is) 0 vs ls w ≡ bind (begins k ls w) (λ _ ls' w'. bind (ev e ls' w') (λ v. sc is 0 (v ∷ vs)))
     scan_code (C.number x) k is vs ls w h g = bind_ext (begins (suc k) ls w) (λ _ ls' w'. push_in vs _ x ls' w' (omega arith)) ∙ begins_more k (value x) _ ls w
     scan_code (C.local x) k is vs ls w h g = bind_ext (begins (suc k) ls w) (λ _ ls' w'. push_out (fetch x ls' w') vs _ (omega arith)) ∙ begins_more k (fetch x) _ ls w
@@ -132,7 +132,7 @@ module _ (room : ℕ) (lets : ℕ → ℕ) (invoke call-fn : ℕ → List ℕ �
         begins_more k (λ ls' w'. bind (ev i ls' w') (λ x. read a x)) _ ls w)
     scan_code (C.call f xs) k is vs ls w h g =
         scan_codes xs f (suc k) is [] vs ls w (omega arith) (omega arith) (omega arith) (omega arith) ∙
-        (bind_ext (begins (suc k) ls w) (λ _ ls' w'. sym (bind_assoc (evs xs ls' w') _ _)) ∙ begins_more k (λ ls' w'. bind (evs xs ls' w') (λ us. call-fn f us)) _ ls w)
+        (bind_ext (begins (suc k) ls w) (λ _ ls' w'. sym (bind_assoc (evs xs ls' w') _ _)) ∙ begins_more k (λ ls' w'. bind (evs xs ls' w') (λ us. call_fn f us)) _ ls w)
     scan_code (C.unary o a) k is vs ls w h g =
         scan_code a (suc k) _ vs ls w h g ∙
         (bind_ext (begins (suc k) ls w)
@@ -160,14 +160,14 @@ module _ (room : ℕ) (lets : ℕ → ℕ) (invoke call-fn : ℕ → List ℕ �
         begins_more k (λ ls' w'. bind (ev a ls' w') (λ x. branch x (value 1) (ev b))) _ ls w)
 
     -- the same of arguments and their call, after the arguments ws
-    pub scan_codes : (xs : Args) (f k : ℕ) (is : List Item) (ws vs ls : List ℕ) (w : World) → length vs < most_operands_lem → length (ws ++ vs) + operands_all xs ≤ most_operands_lem →
-        locals_all lets xs ≤ most_locals_lem → length ws + arguments xs + lets f ≤ most_locals_lem →
+    pub scan_codes : (xs : Args) (f k : ℕ) (is : List Item) (ws vs ls : List ℕ) (w : World) → length vs < most_operands → length (ws ++ vs) + operands_all xs ≤ most_operands →
+        locals_all lets xs ≤ most_locals → length ws + arguments xs + lets f ≤ most_locals →
         sc (codes xs f (length ws) k is) 0 (ws ++ vs) ls w ≡
-        bind (begins k ls w) (λ _ ls' w'. bind (evs xs ls' w') (λ us l u. bind (call-fn f (onto ws us) l u) (λ v. sc is 0 (v ∷ vs))))
+        bind (begins k ls w) (λ _ ls' w'. bind (evs xs ls' w') (λ us l u. bind (call_fn f (onto ws us) l u) (λ v. sc is 0 (v ∷ vs))))
     scan_codes C.none f k is ws vs ls w h g q z =
         bind_ext (begins k ls w)
         (λ _ ls' w'. rw (le-ltb (length (ws ++ vs)) (length ws) (omega (arith, length-append ws vs)), popped_all ws vs [], drop_all ws vs, agree.same f (onto ws []) ls' w' (omega (arith, length_onto ws [])))
-        (push_out (call-fn f (onto ws []) ls' w') vs _ h))
+        (push_out (call_fn f (onto ws []) ls' w') vs _ h))
     scan_codes (C.more e xs) f k is ws vs ls w h g q z =
         scan_code e k _ (ws ++ vs) ls w (omega arith) (omega arith) ∙
         bind_ext (begins k ls w)

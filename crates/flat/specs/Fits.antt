@@ -3,8 +3,8 @@
 use Rattle.std.specs.Prelude.{List, ℕ, suc, ◌+◌, ◌-◌, ◌≤◌, get_or}
 use Rattle.language.specs.Core.{Expr, Args, Stmt, Block, Function, Program}
 use Rattle.language.specs.Core as C
-use Rattle.language.specs.Rules.{most_locals_lem}
-use Rattle.flat.specs.Items.{most_operands_lem}
+use Rattle.language.specs.Rules.{most_locals}
+use Rattle.flat.specs.Items.{most_operands}
 use Rattle.flat.specs.Words.{most_nesting}
 
 -- the larger of two
@@ -99,6 +99,6 @@ block_locals lets b = most_all (locals lets) (λ f xs. locals lets (C.call f xs)
 
 pub record Fits (p : Program) : Type 0 where
   pub nesting : (f : ℕ) → nests_all (body_of p.functions f) ≤ most_nesting
-  pub operands : (f : ℕ) → block_operands (body_of p.functions f) ≤ most_operands_lem
-  pub locals : (f : ℕ) → block_locals (lets_of p.functions) (body_of p.functions f) ≤ most_locals_lem
-  pub main : lets_of p.functions p.main ≤ most_locals_lem
+  pub operands : (f : ℕ) → block_operands (body_of p.functions f) ≤ most_operands
+  pub locals : (f : ℕ) → block_locals (lets_of p.functions) (body_of p.functions f) ≤ most_locals
+  pub main : lets_of p.functions p.main ≤ most_locals

@@ -70,8 +70,8 @@ malformed = 0
 
 -- The room for operands. Document 01 §3 lets 32 brackets be open; between one and the next at most three operators of rising level wait for
 -- their right side, and before an argument at most seven others do: 32 * 10, and 4 innermost.
-abbrev pub most_operands_lem : ℕ
-most_operands_lem = 324
+abbrev pub most_operands : ℕ
+most_operands = 324
 
 -- n nodes begin
 unfoldable pub begins : ℕ → Act (Unit {0})
@@ -95,7 +95,7 @@ abbrev pub Onward : Type 0
 Onward = ℕ → List ℕ → Act ℕ
 
 unfoldable pub push : List ℕ → Onward → ℕ → Act ℕ
-push vs k v = pick (ltb (length vs) most_operands_lem) (k 0 (v ∷ vs)) (trap malformed)
+push vs k v = pick (ltb (length vs) most_operands) (k 0 (v ∷ vs)) (trap malformed)
 
 -- `invoke f vs` is a call of function f with the values vs
 module _ (invoke : ℕ → List ℕ → Act ℕ) where

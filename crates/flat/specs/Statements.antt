@@ -4,7 +4,7 @@ use Rattle.std.specs.Prelude.{List, [], ◌++◌, ℕ, zero, suc, ◌+◌, leb, 
 use Rattle.word.specs.Choice.{pick}
 use Rattle.language.specs.Core.{Array}
 use Rattle.language.specs.Core as C
-use Rattle.language.specs.Rules.{most_locals_lem}
+use Rattle.language.specs.Rules.{most_locals}
 use Rattle.language.specs.Meaning.{Act, ◌>>=◌, ◌>>◌, value, trap, stops, trapped, too_many_activations, begin, branch, write, assign, append, Flow, next, returned, followed, rounds, back}
 use Rattle.flat.specs.Items.{Item, code, codes, malformed, evaluate}
 
@@ -96,5 +96,5 @@ module _ (room : ℕ) where
   unfoldable pub fcall_at : (ℕ → Function) → ℕ → ℕ → List ℕ → Act ℕ
   fcall_at fs zero f vs ls w = stops (trapped too_many_activations) w
   fcall_at fs (suc left) f vs ls w =
-      pick (leb (length vs + (fs f).lets) most_locals_lem) (back room ls (fblock (fcall_at fs left) (fs f).body (vs ++ replicate (fs f).lets 0) w))
+      pick (leb (length vs + (fs f).lets) most_locals) (back room ls (fblock (fcall_at fs left) (fs f).body (vs ++ replicate (fs f).lets 0) w))
       (stops (trapped malformed) w)

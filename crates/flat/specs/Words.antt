@@ -16,8 +16,8 @@ word ws i = get_or ws i 0
 
 -- Items. An item is four words: its kind's number, its charge, and two that the kind has a use for.
 
-abbrev pub item_words_lem : ℕ
-item_words_lem = 4
+abbrev pub words_per_item : ℕ
+words_per_item = 4
 
 abbrev pub unaries : List Kind
 unaries = unary negate ∷ unary not ∷ []
@@ -59,7 +59,7 @@ item_of ws = item (word ws 1) (kind_of (word ws 0) (word ws 2) (word ws 3))
 -- n items
 unfoldable pub items_of : ℕ → List ℕ → List Item
 items_of zero ws = []
-items_of (suc n) ws = item_of ws ∷ items_of n (drop item_words_lem ws)
+items_of (suc n) ws = item_of ws ∷ items_of n (drop words_per_item ws)
 
 -- Statements. A statement is a header of eight words, and then its expressions and its blocks, one after the other. The header's first word is
 -- its kind's number. Then come two that the kind has a use for, how many items the first and the second expression have, how many statements the
@@ -90,14 +90,14 @@ abbrev pub rest_words : List ℕ → ℕ
 rest_words ws = word ws 7
 
 -- how many words are before the end of the first expression
-abbrev pub first_end_lem : List ℕ → ℕ
-first_end_lem ws = header_words + item_words_lem * first_items ws
+abbrev pub first_end : List ℕ → ℕ
+first_end ws = header_words + words_per_item * first_items ws
 
 abbrev pub first : List ℕ → List Item
 first ws = items_of (first_items ws) (drop header_words ws)
 
 abbrev pub second : List ℕ → List Item
-second ws = items_of (second_items ws) (drop (first_end_lem ws) ws)
+second ws = items_of (second_items ws) (drop (first_end ws) ws)
 
 module _ (block : ℕ → List ℕ → Block) where
   -- of `choose`, a is how many words the first block has
@@ -105,8 +105,8 @@ module _ (block : ℕ → List ℕ → Block) where
   statements ws =
       put (a ws) (first ws) ∷
       store (record { offset = a ws; size = b ws }) (first ws) (second ws) ∷
-      choose (first ws) (block (first_count ws) (drop (first_end_lem ws) ws)) (block (second_count ws) (drop (first_end_lem ws + a ws) ws)) ∷
-      while (first ws) (block (first_count ws) (drop (first_end_lem ws) ws)) ∷
+      choose (first ws) (block (first_count ws) (drop (first_end ws) ws)) (block (second_count ws) (drop (first_end ws + a ws) ws)) ∷
+      while (first ws) (block (first_count ws) (drop (first_end ws) ws)) ∷
       leave ∷
       give (first ws) ∷
       emit (first ws) ∷
@@ -203,7 +203,7 @@ count (then s b) = suc (count b)
 
 -- how many words items have; how many follow a statement's header; how many a block has
 abbrev pub items_length : List Item → ℕ
-items_length is = item_words_lem * length is
+items_length is = words_per_item * length is
 
 unfoldable mutual
   pub rest_length : Stmt → ℕ

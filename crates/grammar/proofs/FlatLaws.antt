@@ -7,7 +7,7 @@ use native.Mathlib.Omega.{arith}
 use lib.ListN.{length, length-append}
 use Rattle.language.specs.Tree.{Place, Name, Ty, Unary, Binary, Expr, Args, Stmt, Block, Param, Item}
 use Rattle.grammar.specs.Parse.{Tail, grow}
-use Rattle.grammar.specs.Flat.{item, item_words_lem, size, sizes, expr_words, args_words, right_words, tail_words, arg_count, header, run_words, stmt_words, block_words, params_words, type_number, item_words, items_words, strict_number, number_item, name_item, element_item, call_item, unary_item, unary_number, strict_item, and_item, or_item, join_item}
+use Rattle.grammar.specs.Flat.{item, words_per_item, size, sizes, expr_words, args_words, right_words, tail_words, arg_count, header, run_words, stmt_words, block_words, params_words, type_number, item_words, items_words, strict_number, number_item, name_item, element_item, call_item, unary_item, unary_number, strict_item, and_item, or_item, join_item}
 
 abbrev pub Linear : (List ℕ → List ℕ) → Type 0
 Linear w = (more : List ℕ) → w more ≡ w [] ++ more
@@ -111,17 +111,17 @@ items_linear (x ∷ xs) m = both (item_words x) (items_words xs) (item_linear x)
 mutual
   unfolding expr_words args_words size sizes
 
-  pub expr_length_lem : (e : Expr) (m : List ℕ) → length (expr_words e m) ≡ item_words_lem * size e + length m
+  pub expr_length_lem : (e : Expr) (m : List ℕ) → length (expr_words e m) ≡ words_per_item * size e + length m
   expr_length_lem (Expr.number n) m = omega arith
   expr_length_lem (Expr.truth b) m = omega arith
   expr_length_lem (Expr.name p x) m = omega arith
   expr_length_lem (Expr.element p x e) m = expr_length_lem e (item 2 p (length x) 0 m) ∙ omega arith
   expr_length_lem (Expr.call p x es) m = args_length es (item 3 p (length x) (arg_count es) m) ∙ omega arith
   expr_length_lem (Expr.unary p o a) m = expr_length_lem a _ ∙ omega arith
-  expr_length_lem (Expr.binary p Binary.or a b) m = expr_length_lem a _ ∙ ap (λ (n : ℕ). item_words_lem * size a + suc (suc (suc (suc n)))) (expr_length_lem b (item join_item p 0 0 m)) ∙ omega arith
-  expr_length_lem (Expr.binary p Binary.and a b) m = expr_length_lem a _ ∙ ap (λ (n : ℕ). item_words_lem * size a + suc (suc (suc (suc n)))) (expr_length_lem b (item join_item p 0 0 m)) ∙ omega arith
-  expr_length_lem (Expr.binary p (Binary.strict s) a b) m = expr_length_lem a _ ∙ ap (λ (n : ℕ). item_words_lem * size a + n) (expr_length_lem b (item strict_item p (strict_number s) 0 m)) ∙ omega arith
+  expr_length_lem (Expr.binary p Binary.or a b) m = expr_length_lem a _ ∙ ap (λ (n : ℕ). words_per_item * size a + suc (suc (suc (suc n)))) (expr_length_lem b (item join_item p 0 0 m)) ∙ omega arith
+  expr_length_lem (Expr.binary p Binary.and a b) m = expr_length_lem a _ ∙ ap (λ (n : ℕ). words_per_item * size a + suc (suc (suc (suc n)))) (expr_length_lem b (item join_item p 0 0 m)) ∙ omega arith
+  expr_length_lem (Expr.binary p (Binary.strict s) a b) m = expr_length_lem a _ ∙ ap (λ (n : ℕ). words_per_item * size a + n) (expr_length_lem b (item strict_item p (strict_number s) 0 m)) ∙ omega arith
 
-  pub args_length : (es : Args) (m : List ℕ) → length (args_words es m) ≡ item_words_lem * sizes es + length m
+  pub args_length : (es : Args) (m : List ℕ) → length (args_words es m) ≡ words_per_item * sizes es + length m
   args_length Args.none m = omega arith
-  args_length (Args.more e es) m = expr_length_lem e _ ∙ ap (λ (n : ℕ). item_words_lem * size e + n) (args_length es m) ∙ omega arith
+  args_length (Args.more e es) m = expr_length_lem e _ ∙ ap (λ (n : ℕ). words_per_item * size e + n) (args_length es m) ∙ omega arith

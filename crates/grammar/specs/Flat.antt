@@ -7,8 +7,8 @@ use Rattle.grammar.specs.Parse.{Tail}
 
 -- Expressions. An item is four words: its kind's number, the place of its token (0 for a number or a truth), and two that the kind has a use for.
 
-abbrev pub item_words_lem : ℕ
-item_words_lem = 4
+abbrev pub words_per_item : ℕ
+words_per_item = 4
 
 abbrev pub item : ℕ → Place → ℕ → ℕ → List ℕ → List ℕ
 item k p a b more = k ∷ p ∷ a ∷ b ∷ more

@@ -12,7 +12,7 @@ use borrow.Enum.Refused.{Among, opened}
 use denote.Enum.Declared.{tag_of}
 use Rattle.language.specs.Core.{Array}
 use Rattle.language.specs.Meaning.{World, Result, Act, bind, read, fetch, index_outside}
-use Rattle.flat.specs.Items.{Kind, number, element, and, or, unknown, malformed, top, Onward, push, most_operands_lem, step}
+use Rattle.flat.specs.Items.{Kind, number, element, and, or, unknown, malformed, top, Onward, push, most_operands, step}
 use Rattle.flat.specs.Words.{kinds, kind_of, unaries, stricts}
 use Rattle.interpreter.specs.declared.Out.{Out}
 use Rattle.interpreter.specs.declared.Out.TheVariants.{Goes, Trapped, OutOfFuel}
@@ -66,18 +66,18 @@ local_none work c x l = sym (get_or-eq_default (take c work) 0 (omega (arith, le
 
 -- A push
 
-pub push_there : {work : List ℕ} {c h : ℕ} (v : ℕ) → Frame c h work → h < most_operands_lem → Pushes work c h v (Goes 0) (h + 1) (set work (c + h) v)
+pub push_there : {work : List ℕ} {c h : ℕ} (v : ℕ) → Frame c h work → h < most_operands → Pushes work c h v (Goes 0) (h + 1) (set work (c + h) v)
 unfolding push
 push_there {work} {c} {h} v f l =
     record {
-      same = λ k ls w. rw (length_operands work c h, lt-ltb h most_operands_lem l, operands_push work c h v (omega (arith, f)));
+      same = λ k ls w. rw (length_operands work c h, lt-ltb h most_operands l, operands_push work c h v (omega (arith, f)));
       locals = take-set-le c work (c + h) v (omega arith);
       fits = omega arith;
     }
 
-pub push_full : {work : List ℕ} {c h : ℕ} (v : ℕ) → Frame c h work → most_operands_lem ≤ h → Pushes work c h v (Trapped malformed) h work
+pub push_full : {work : List ℕ} {c h : ℕ} (v : ℕ) → Frame c h work → most_operands ≤ h → Pushes work c h v (Trapped malformed) h work
 unfolding push
-push_full {work} {c} {h} v f l = record { same = λ k ls w. rw (length_operands work c h, le-ltb h most_operands_lem l); locals = refl; fits = f.operands }
+push_full {work} {c} {h} v f l = record { same = λ k ls w. rw (length_operands work c h, le-ltb h most_operands l); locals = refl; fits = f.operands }
 
 -- Outcomes
 

@@ -12,11 +12,11 @@ use types.Run.{OneOf, miss}
 use borrow.Enum.Refused.{Among, opened}
 use denote.Enum.Declared.{tag_of}
 use Rattle.word.specs.Choice.{pick}
-use Rattle.language.specs.Rules.{most_locals_lem}
+use Rattle.language.specs.Rules.{most_locals}
 use Rattle.language.specs.Meaning.{World, Result, goes, stops, out_of_fuel, Act, bind, value, begin, begin_on, branch, write, index_outside, too_many_activations, Flow, next, followed, rounds, back}
-use Rattle.flat.specs.Items.{item, malformed, most_operands_lem, begins, top, popped, Onward, step, scan, evaluate}
+use Rattle.flat.specs.Items.{item, malformed, most_operands, begins, top, popped, Onward, step, scan, evaluate}
 use Rattle.flat.specs.Statements.{Stmt, fexec, fblock, fcall_at}
-use Rattle.flat.specs.Words.{word, item_words_lem, kind_of, item_of, items_of, header_words, first_end_lem, first, second, statements, statement_of, sequence_of, block_of, most_nesting}
+use Rattle.flat.specs.Words.{word, words_per_item, kind_of, item_of, items_of, header_words, first_end, first, second, statements, statement_of, sequence_of, block_of, most_nesting}
 use Rattle.flat.specs.Statements as S
 use Rattle.interpreter.specs.declared.Out.{Out}
 use Rattle.interpreter.specs.declared.Out.TheVariants.{Goes, Trapped, OutOfFuel}
@@ -83,20 +83,20 @@ zero_of n h = omega arith
 abbrev wd : ℕ → List ℕ → List ℕ → World
 wd f l xs = record { fuel = f; log = l; arrays = xs }
 
-items_one : (n : ℕ) (ws : List ℕ) → 0 < n → items_of n ws ≡ item_of ws ∷ items_of (n - 1) (drop item_words_lem ws)
+items_one : (n : ℕ) (ws : List ℕ) → 0 < n → items_of n ws ≡ item_of ws ∷ items_of (n - 1) (drop words_per_item ws)
 unfolding items_of
 items_one zero ws h = absurd (omega arith)
-items_one (suc n) ws h = ap (λ (j : ℕ). item_of ws ∷ items_of j (drop item_words_lem ws)) {x = n} {y = suc n - 1} (omega arith)
+items_one (suc n) ws h = ap (λ (j : ℕ). item_of ws ∷ items_of j (drop words_per_item ws)) {x = n} {y = suc n - 1} (omega arith)
 
-skip_items : (i : ℕ → List ℕ → Act ℕ) (n m : ℕ) (ws vs ls : List ℕ) (w : World) → scan i (items_of n ws) m vs ls w ≡ scan i (items_of (n - m) (drop (item_words_lem * m) ws)) 0 vs ls w
+skip_items : (i : ℕ → List ℕ → Act ℕ) (n m : ℕ) (ws vs ls : List ℕ) (w : World) → scan i (items_of n ws) m vs ls w ≡ scan i (items_of (n - m) (drop (words_per_item * m) ws)) 0 vs ls w
 unfolding items_of scan
 skip_items i zero zero ws vs ls w = refl
-skip_items i zero (suc m) ws vs ls w = ap (λ (j : ℕ). scan i (items_of j (drop (item_words_lem * suc m) ws)) 0 vs ls w) {x = 0} {y = 0 - suc m} (omega arith)
+skip_items i zero (suc m) ws vs ls w = ap (λ (j : ℕ). scan i (items_of j (drop (words_per_item * suc m) ws)) 0 vs ls w) {x = 0} {y = 0 - suc m} (omega arith)
 skip_items i (suc n) zero ws vs ls w = ap (λ (j : ℕ). scan i (items_of j ws) 0 vs ls w) {x = suc n} {y = suc n - 0} (omega arith)
 skip_items i (suc n) (suc m) ws vs ls w =
-    skip_items i n m (drop item_words_lem ws) vs ls w ∙
-    (ap (λ (us : List ℕ). scan i (items_of (n - m) us) 0 vs ls w) (drop-drop (item_words_lem * m) item_words_lem ws ∙ ap (λ (j : ℕ). drop j ws) {x = item_words_lem + item_words_lem * m} {y = item_words_lem * suc m} (omega arith)) ∙
-    ap (λ (j : ℕ). scan i (items_of j (drop (item_words_lem * suc m) ws)) 0 vs ls w) {x = n - m} {y = suc n - suc m} (omega arith))
+    skip_items i n m (drop words_per_item ws) vs ls w ∙
+    (ap (λ (us : List ℕ). scan i (items_of (n - m) us) 0 vs ls w) (drop-drop (words_per_item * m) words_per_item ws ∙ ap (λ (j : ℕ). drop j ws) {x = words_per_item + words_per_item * m} {y = words_per_item * suc m} (omega arith)) ∙
+    ap (λ (j : ℕ). scan i (items_of j (drop (words_per_item * suc m) ws)) 0 vs ls w) {x = n - m} {y = suc n - suc m} (omega arith))
 
 -- c nodes begin, if there is fuel
 
@@ -134,7 +134,7 @@ onwards_as o w e = ap (onwards o w) e
 -- one item of a scan, from what its words are
 module _ (t : List ℕ) (room left n : ℕ) (ws : List ℕ) (c h : ℕ) (work : List ℕ) (f : ℕ) (l xs : List ℕ) (pos : 0 < n) (k ch a b : ℕ) (ei : item_of ws ≡ item ch (kind_of k a b)) where
   abbrev on : Onward
-  on = scan (invoke_of t room left) (items_of (n - 1) (drop item_words_lem ws))
+  on = scan (invoke_of t room left) (items_of (n - 1) (drop words_per_item ws))
 
   whole : (r : Result ℕ) → bind (begins ch (take c work) (wd f l xs)) (λ _. step (invoke_of t room left) (kind_of k a b) (operands_at work c h) on) ≡ r →
       scan (invoke_of t room left) (items_of n ws) 0 (operands_at work c h) (take c work) (wd f l xs) ≡ r
@@ -146,22 +146,22 @@ module _ (t : List ℕ) (room left n : ℕ) (ws : List ℕ) (c h : ℕ) (work : 
   unfolding bind
   paid r q z = whole r (rw (pay ch f (take c work) l xs q) z)
 
-  pub one_dry : (m : ℕ) (ws' : List ℕ) → f < ch → m < n → h ≤ most_operands_lem → Steps t room left n ws c h work (wd f l xs) OutOfFuel m ws' h work (wd 0 l xs)
+  pub one_dry : (m : ℕ) (ws' : List ℕ) → f < ch → m < n → h ≤ most_operands → Steps t room left n ws c h work (wd f l xs) OutOfFuel m ws' h work (wd 0 l xs)
   unfolding bind
   one_dry m ws' q z y = record { same = whole _ (rw (dry ch f (take c work) l xs q)); fits = y; fewer = z }
 
-  pub one_moves : {o : Out} {skip h' m : ℕ} {work' ws' : List ℕ} → ch ≤ f → Moves work c h xs (kind_of k a b) o skip h' work' → m ≡ n - 1 - skip → ws' ≡ drop (item_words_lem + item_words_lem * skip) ws →
+  pub one_moves : {o : Out} {skip h' m : ℕ} {work' ws' : List ℕ} → ch ≤ f → Moves work c h xs (kind_of k a b) o skip h' work' → m ≡ n - 1 - skip → ws' ≡ drop (words_per_item + words_per_item * skip) ws →
       Steps t room left n ws c h work (wd f l xs) o m ws' h' work' (wd (f - ch) l xs)
   one_moves {o} {skip} {h'} {m} {work'} {ws'} q x d e =
       record {
-        same = paid _ q (x.same (invoke_of t room left) on (f - ch) l ∙ onwards_as o _ (skip_items (invoke_of t room left) (n - 1) skip (drop item_words_lem ws) (operands_at work' c h') (take c work') (wd (f - ch) l xs) ∙
-            (ap (λ (us : List ℕ). scan (invoke_of t room left) (items_of (n - 1 - skip) us) 0 (operands_at work' c h') (take c work') (wd (f - ch) l xs)) (drop-drop (item_words_lem * skip) item_words_lem ws ∙ sym e) ∙
+        same = paid _ q (x.same (invoke_of t room left) on (f - ch) l ∙ onwards_as o _ (skip_items (invoke_of t room left) (n - 1) skip (drop words_per_item ws) (operands_at work' c h') (take c work') (wd (f - ch) l xs) ∙
+            (ap (λ (us : List ℕ). scan (invoke_of t room left) (items_of (n - 1 - skip) us) 0 (operands_at work' c h') (take c work') (wd (f - ch) l xs)) (drop-drop (words_per_item * skip) words_per_item ws ∙ sym e) ∙
             ap (λ (j : ℕ). scan (invoke_of t room left) (items_of j ws') 0 (operands_at work' c h') (take c work') (wd (f - ch) l xs)) (sym d))));
         fits = x.fits;
         fewer = omega arith;
       }
 
-  pub one_enters : {o : Out} {h' m : ℕ} {work' ws' : List ℕ} {w' : World} → ch ≤ f → k ≡ 3 → Enters t room left a b c h work (wd (f - ch) l xs) o h' work' w' → m ≡ n - 1 → ws' ≡ drop item_words_lem ws →
+  pub one_enters : {o : Out} {h' m : ℕ} {work' ws' : List ℕ} {w' : World} → ch ≤ f → k ≡ 3 → Enters t room left a b c h work (wd (f - ch) l xs) o h' work' w' → m ≡ n - 1 → ws' ≡ drop words_per_item ws →
       Steps t room left n ws c h work (wd f l xs) o m ws' h' work' w'
   unfolding kind_of
   one_enters {o} {h'} {m} {work'} {ws'} {w'} q z x d e =
@@ -176,7 +176,7 @@ module _ (t : List ℕ) (room left n : ℕ) (ws : List ℕ) (c h : ℕ) (work : 
 
 pub record Scanning (t : List ℕ) (room left n₀ : ℕ) (ws₀ ls₀ : List ℕ) (w₀ : World) (c m : ℕ) (ws : List ℕ) (h : ℕ) (work : List ℕ) (w : World) : Type 0 where
   pub rest : evaluate (invoke_of t room left) (items_of n₀ ws₀) ls₀ w₀ ≡ scan (invoke_of t room left) (items_of m ws) 0 (operands_at work c h) (take c work) w
-  pub fits : h ≤ most_operands_lem
+  pub fits : h ≤ most_operands
 
 pub scanning_start : (t : List ℕ) (room left n : ℕ) (ws : List ℕ) (c : ℕ) (work : List ℕ) (w : World) → Scanning t room left n ws (take c work) w c n ws 0 work w
 unfolding evaluate operands_at
@@ -210,17 +210,17 @@ module _ (t : List ℕ) (room left f : ℕ) (vs : List ℕ) (w : World) where
   call_deep z = record { same = λ ls. rw z }
 
   module _ (left' : ℕ) {n c place statements lets : ℕ} (nz : left ≡ 0 → ⊥) (el : left' ≡ left - 1) (x : Heads t f place statements lets) (ev : length vs ≡ n) (ec : c ≡ n + lets) where
-    pub call_malformed : most_locals_lem < c → Calls t room left f vs w (Trapped malformed) w
+    pub call_malformed : most_locals < c → Calls t room left f vs w (Trapped malformed) w
     unfolding fcall_at
-    call_malformed l = record { same = λ ls. rw (pos_of left left' nz el, x.locals, ev, lt-leb (n + lets) most_locals_lem (omega arith)) }
+    call_malformed l = record { same = λ ls. rw (pos_of left left' nz el, x.locals, ev, lt-leb (n + lets) most_locals (omega arith)) }
 
-    pub call_body : {fl : D.Flow} {out : Out} {ls ls' : List ℕ} {w' : World} → c ≤ most_locals_lem → ls ≡ vs ++ replicate (c - n) 0 → Blocks t room left' most_nesting statements (drop place t) ls w fl ls' w' →
+    pub call_body : {fl : D.Flow} {out : Out} {ls ls' : List ℕ} {w' : World} → c ≤ most_locals → ls ≡ vs ++ replicate (c - n) 0 → Blocks t room left' most_nesting statements (drop place t) ls w fl ls' w' →
         out ≡ result_of fl → Calls t room left f vs w out w'
     unfolding fcall_at
     call_body {fl} {out} {ls} {ls'} {w'} l e y r =
         let q : c - n ≡ lets = omega arith in
         let e' : vs ++ replicate lets 0 ≡ ls = ap (λ (j : ℕ). vs ++ replicate j 0) (sym q) ∙ sym e in
-        record { same = λ us. rw (pos_of left left' nz el, x.locals, ev, le-leb (n + lets) most_locals_lem (omega arith), x.body, e', y.same, r) (back_flows room fl us ls' w') }
+        record { same = λ us. rw (pos_of left left' nz el, x.locals, ev, le-leb (n + lets) most_locals (omega arith), x.body, e', y.same, r) (back_flows room fl us ls' w') }
 
 take_snoc : (work : List ℕ) (b n : ℕ) (more : List ℕ) → b + n < length work → take (suc n) (drop b work) ++ more ≡ take n (drop b work) ++ (get_or work (b + n) 0 ∷ more)
 take_snoc work b n more l = rw (take-suc (drop b work) n 0 (omega (arith, length-drop b work)), get_or-drop b work n 0, append_assoc)
@@ -258,11 +258,11 @@ below_take : {a : ℕ} {work us : List ℕ} → Below a work us → (c : ℕ) �
 below_take {a} {work} {us} x c l = sym (take-take c a us l) ∙ (ap (take c) x.same ∙ take-take c a work l)
 
 module _ (t : List ℕ) (room left f n c h : ℕ) (work : List ℕ) (w : World) where
-  pub enter_few : h < n → h ≤ most_operands_lem → Enters t room left f n c h work w (Trapped malformed) h work w
+  pub enter_few : h < n → h ≤ most_operands → Enters t room left f n c h work w (Trapped malformed) h work w
   unfolding step
   enter_few l q = record { same = λ k. rw (length_operands work c h, lt-ltb h n l); fits = q }
 
-  module _ {vs : List ℕ} {o : Out} {w' : World} (l : n ≤ h) (q : h ≤ most_operands_lem) (ev : popped n (operands_at work c h) [] ≡ vs) (x : Calls t room left f vs w o w') where
+  module _ {vs : List ℕ} {o : Out} {w' : World} (l : n ≤ h) (q : h ≤ most_operands) (ev : popped n (operands_at work c h) [] ≡ vs) (x : Calls t room left f vs w o w') where
     pub enter_stop : (work' : List ℕ) → Stops o → Enters t room left f n c h work w o (h - n) work' w'
     unfolding step
     enter_stop work' z = record { same = λ k. rw (length_operands work c h, le-ltb h n l, ev, x.same (take c work)) (stop_on o _ _ _ _ z); fits = omega arith }
@@ -285,9 +285,9 @@ items_at e d = rw (e, d)
 pub block_at : (depth : ℕ) {n m : ℕ} {es us : List ℕ} → n ≡ m → es ≡ us → block_of depth n es ≡ block_of depth m us
 block_at depth e d = rw (e, d)
 
-pub chosen_second : (depth : ℕ) (ws : List ℕ) {v n k : ℕ} {us vs : List ℕ} → v ≡ 0 → n ≡ word ws 6 → k ≡ word ws 1 → vs ≡ drop (first_end_lem ws) ws → us ≡ drop k vs →
+pub chosen_second : (depth : ℕ) (ws : List ℕ) {v n k : ℕ} {us vs : List ℕ} → v ≡ 0 → n ≡ word ws 6 → k ≡ word ws 1 → vs ≡ drop (first_end ws) ws → us ≡ drop k vs →
     block_of depth n us ≡ branch v (first_block depth ws) (second_block depth ws)
-chosen_second depth ws z en ek ef d = rw (z, en, d, ef, ek, drop-drop (word ws 1) (first_end_lem ws) ws)
+chosen_second depth ws z en ek ef d = rw (z, en, d, ef, ek, drop-drop (word ws 1) (first_end ws) ws)
 
 pub chosen_first : (v : ℕ) {x : S.Block} (p q : S.Block) → (v ≡ 0 → ⊥) → x ≡ p → x ≡ branch v p q
 chosen_first zero p q z e = absurd (z refl)
@@ -314,7 +314,7 @@ module _ (t : List ℕ) (room left depth : ℕ) (ws : List ℕ) where
   abbrev rest : ℕ → ℕ → Act Flow
   rest k v =
       pick (eqb k 1) (λ ls w. bind (evaluate (invoke_of t room left) (second ws) ls w) (λ u ls₁ w₁. bind (write (record { offset = word ws 1; size = word ws 2 }) v u ls₁ w₁) (λ _. value next)))
-      (pick (eqb k 2) (branch v (fblock room (invoke_of t room left) (block_of depth (word ws 5) (drop (first_end_lem ws) ws))) (fblock room (invoke_of t room left) (block_of depth (word ws 6) (drop (first_end_lem ws + word ws 1) ws))))
+      (pick (eqb k 2) (branch v (fblock room (invoke_of t room left) (block_of depth (word ws 5) (drop (first_end ws) ws))) (fblock room (invoke_of t room left) (block_of depth (word ws 6) (drop (first_end ws + word ws 1) ws))))
       (finishes room k ws v))
 
   valued_kind : (k : ℕ) → k ≤ 7 → (k ≡ 3 → ⊥) → (k ≡ 4 → ⊥) → (ls : List ℕ) (w : World) → run k ls w ≡ bind (val ls w) (rest k)

@@ -2,11 +2,11 @@
 -- An activation's room begins with its locals; its operands follow, and above those the room of the calls that it makes.
 use Rattle.std.specs.Prelude.{◌≡◌, List, [], ◌∷◌, ℕ, zero, suc, ◌+◌, ◌*◌, ◌≤◌, ◌<◌, eqb, length, get_or, take, drop}
 use Rattle.word.specs.Choice.{pick}
-use Rattle.language.specs.Rules.{most_locals_lem}
+use Rattle.language.specs.Rules.{most_locals}
 use Rattle.language.specs.Meaning.{World, Result, goes, stops, trapped, out_of_fuel, Act, bind, ◌>>◌, value, write, assign, append, Flow, next, returned, Outcome, finished, stopped, most_activations}
-use Rattle.flat.specs.Items.{Kind, call, unknown, top, Onward, push, most_operands_lem, step, scan, evaluate}
+use Rattle.flat.specs.Items.{Kind, call, unknown, top, Onward, push, most_operands, step, scan, evaluate}
 use Rattle.flat.specs.Statements.{Block, fexec, fblock, fcall_at}
-use Rattle.flat.specs.Words.{unaries, stricts, items_of, word, a, b, first_count, second_count, first_end_lem, second, statement_of, function_of, block_of, most_nesting, flat_run}
+use Rattle.flat.specs.Words.{unaries, stricts, items_of, word, a, b, first_count, second_count, first_end, second, statement_of, function_of, block_of, most_nesting, flat_run}
 use Rattle.interpreter.specs.declared.Out.{Out}
 use Rattle.interpreter.specs.declared.Out.TheVariants.{Goes, Trapped, OutOfFuel}
 use Rattle.interpreter.specs.declared.Flow as D
@@ -40,12 +40,12 @@ pub record Unarily (op a : ℕ) (o : Out) : Type 0 where
 
 -- how many words of room an activation takes at most
 abbrev pub frame_words : ℕ
-frame_words = most_locals_lem + most_operands_lem
+frame_words = most_locals + most_operands
 
 -- the room that an activation has for c locals and h operands
 pub record Frame (c h : ℕ) (work : List ℕ) : Type 0 where
-  pub locals : c ≤ most_locals_lem
-  pub operands : h ≤ most_operands_lem
+  pub locals : c ≤ most_locals
+  pub operands : h ≤ most_operands
   pub room : frame_words ≤ length work
 
 -- what goes on, unless it stopped
@@ -58,14 +58,14 @@ onwards OutOfFuel w r = stops out_of_fuel w
 pub record Pushes (work : List ℕ) (c h v : ℕ) (o : Out) (h' : ℕ) (work' : List ℕ) : Type 0 where
   pub same : (k : Onward) (ls : List ℕ) (w : World) → push (operands_at work c h) k v ls w ≡ onwards o w (k 0 (operands_at work' c h') ls w)
   pub locals : take c work' ≡ take c work
-  pub fits : h' ≤ most_operands_lem
+  pub fits : h' ≤ most_operands
 
 -- an item that calls nothing, on h operands, whatever follows: how many items are skipped, and the operands after it
 pub record Moves (work : List ℕ) (c h : ℕ) (arrays : List ℕ) (i : Kind) (o : Out) (skip h' : ℕ) (work' : List ℕ) : Type 0 where
   pub same : (invoke : ℕ → List ℕ → Act ℕ) (k : Onward) (fuel : ℕ) (log : List ℕ) →
       step invoke i (operands_at work c h) k (take c work) (record { fuel = fuel; log = log; arrays = arrays }) ≡
       onwards o (record { fuel = fuel; log = log; arrays = arrays }) (k skip (operands_at work' c h') (take c work') (record { fuel = fuel; log = log; arrays = arrays }))
-  pub fits : h' ≤ most_operands_lem
+  pub fits : h' ≤ most_operands
 
 -- Calls, statements and blocks. `t` is all words, `room` the log's room, and `left` how many more activations may be made.
 
@@ -74,7 +74,7 @@ invoke_of t room left = fcall_at room (function_of t) left
 
 -- the room that an activation with c locals has, its own and that of the calls it makes, and the log's
 pub record Roomy (c left room : ℕ) (work log : List ℕ) : Type 0 where
-  pub locals : c ≤ most_locals_lem
+  pub locals : c ≤ most_locals
   pub frames : frame_words * (left + 1) ≤ length work
   pub logs : room ≤ length log
 
@@ -114,13 +114,13 @@ result_of F.OutOfFuel = OutOfFuel
 pub record Steps (t : List ℕ) (room left n : ℕ) (ws : List ℕ) (c h : ℕ) (work : List ℕ) (w : World) (o : Out) (n' : ℕ) (ws' : List ℕ) (h' : ℕ) (work' : List ℕ) (w' : World) : Type 0 where
   pub same : scan (invoke_of t room left) (items_of n ws) 0 (operands_at work c h) (take c work) w ≡
       onwards o w' (scan (invoke_of t room left) (items_of n' ws') 0 (operands_at work' c h') (take c work') w')
-  pub fits : h' ≤ most_operands_lem
+  pub fits : h' ≤ most_operands
   pub fewer : n' < n
 
 -- an item that calls function f with n arguments, whatever follows
 pub record Enters (t : List ℕ) (room left f n c h : ℕ) (work : List ℕ) (w : World) (o : Out) (h' : ℕ) (work' : List ℕ) (w' : World) : Type 0 where
   pub same : (k : Onward) → step (invoke_of t room left) (call f n) (operands_at work c h) k (take c work) w ≡ onwards o w' (k 0 (operands_at work' c h') (take c work') w')
-  pub fits : h' ≤ most_operands_lem
+  pub fits : h' ≤ most_operands
 
 -- a call with the arguments vs
 pub record Calls (t : List ℕ) (room left f : ℕ) (vs : List ℕ) (w : World) (o : Out) (w' : World) : Type 0 where
@@ -140,10 +140,10 @@ pub record Execs (t : List ℕ) (room left depth : ℕ) (ws ls : List ℕ) (w : 
 
 -- the blocks of the statement at ws
 abbrev pub first_block : ℕ → List ℕ → Block
-first_block depth ws = block_of depth (first_count ws) (drop (first_end_lem ws) ws)
+first_block depth ws = block_of depth (first_count ws) (drop (first_end ws) ws)
 
 abbrev pub second_block : ℕ → List ℕ → Block
-second_block depth ws = block_of depth (second_count ws) (drop (first_end_lem ws + a ws) ws)
+second_block depth ws = block_of depth (second_count ws) (drop (first_end ws + a ws) ws)
 
 -- the rest of a store at ws after its index's value: the second expression, and the element set
 pub record Stores (t : List ℕ) (room left : ℕ) (ws : List ℕ) (i : ℕ) (ls : List ℕ) (w : World) (fl : D.Flow) (ls' : List ℕ) (w' : World) : Type 0 where

@@ -1,6 +1,6 @@
 // Items that call nothing: what each does with the operands, and how many items are then skipped.
 ghost use Rattle.std.specs.Prelude.{◌≡◌, ℕ, List, get_or};
-ghost use Rattle.flat.specs.Items.{number, element as elementOf, and as andOf, or as or_of, unknown};
+ghost use Rattle.flat.specs.Items.{number, element as element_of, and as and_of, or as or_of, unknown};
 ghost use Rattle.flat.specs.Words.{kind_of, unaries, stricts};
 ghost use Rattle.interpreter.specs.Post.{Frame, Moves};
 
@@ -35,7 +35,7 @@ pub fn value(v: u32, work: &mut [u32], c: usize, h: usize) -> Move
 // An element of an array.
 pub fn element(offset: u32, size: u32, work: &mut [u32], arrays: &[u32], c: usize, h: usize) -> Move
     requires { Frame c h work.old }
-    ensures { Moves work.old c h arrays.now (elementOf (record { offset = offset; size = size })) result.out result.skip result.h work.new }
+    ensures { Moves work.old c h arrays.now (element_of (record { offset = offset; size = size })) result.out result.skip result.h work.new }
 {
     let i = top(work, c, h);
     if i < size {
@@ -96,7 +96,7 @@ pub fn two_sides(op: u32, work: &mut [u32], c: usize, h: usize) -> Move
 // Between the sides of `&&`: if the left one is false, so is the whole.
 pub fn and(skip: u32, work: &mut [u32], c: usize, h: usize) -> Move
     requires { Frame c h work.old }
-    ensures { (arrays : List ℕ) → Moves work.old c h arrays (andOf skip) result.out result.skip result.h work.new }
+    ensures { (arrays : List ℕ) → Moves work.old c h arrays (and_of skip) result.out result.skip result.h work.new }
 {
     let m = below(h, 1);
     if top(work, c, h) == 0 {

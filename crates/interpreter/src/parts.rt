@@ -2,7 +2,7 @@
 ghost use Rattle.std.specs.Prelude.{◌≡◌, ℕ, ◌+◌, ◌*◌, ◌-◌, ◌<◌, drop};
 ghost use Rattle.language.specs.Meaning.{branch};
 ghost use Rattle.flat.specs.Items.{item as charged};
-ghost use Rattle.flat.specs.Words.{item_of, kind_of, items_of, item_words_lem, header_words, rest_words, first_end_lem as first_end, first as first_of, second as second_of, block_of};
+ghost use Rattle.flat.specs.Words.{item_of, kind_of, items_of, words_per_item, header_words, rest_words, first_end as first_end, first as first_of, second as second_of, block_of};
 ghost use Rattle.interpreter.specs.Post.{first_block, second_block};
 
 use crate::Span;
@@ -33,7 +33,7 @@ pub fn item_at(words: &[u32], p: usize) -> Item
 // The items that are left after the first one and so many more.
 pub fn past(words: &[u32], at: Span, skip: u32) -> Span
     requires { 0 < at.n }
-    ensures { (result.n ≡ at.n - 1 - skip) × (drop result.p words.now ≡ drop (item_words_lem + item_words_lem * skip) (drop at.p words.now)) }
+    ensures { (result.n ≡ at.n - 1 - skip) × (drop result.p words.now ≡ drop (words_per_item + words_per_item * skip) (drop at.p words.now)) }
 {
     let w = item::WORDS as usize;
     let n = below(at.n as usize - 1, skip as usize) as u32;

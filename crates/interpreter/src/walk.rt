@@ -9,7 +9,7 @@
 //   arrays, log    the elements of all arrays; the log's buffer
 //   meter          the fuel that is left, and how many words are logged
 ghost use Rattle.std.specs.Prelude.{◌≡◌, ◌<◌, ◌≤◌, take, drop, get_or};
-ghost use Rattle.flat.specs.Items.{most_operands_lem};
+ghost use Rattle.flat.specs.Items.{most_operands};
 ghost use Rattle.interpreter.specs.Post.{world, Roomy, Callable, Grows, Steps, Enters, Calls, Scans, Blocks, Execs, Stores};
 
 use crate::items::act;
@@ -87,7 +87,7 @@ fn enter(
     log: &mut [u32],
     meter: Meter,
 ) -> Entered
-    requires { Roomy bounds.locals bounds.left bounds.room work.old log.old × (h ≤ most_operands_lem) }
+    requires { Roomy bounds.locals bounds.left bounds.room work.old log.old × (h ≤ most_operands) }
     ensures enters { Enters words.now bounds.room bounds.left f n bounds.locals h work.old (world meter.fuel meter.logged log.old arrays.old) result.out result.h work.new (world result.meter.fuel result.meter.logged log.new arrays.new) }
     ensures grows { Grows bounds.room meter.logged log.old result.meter.logged log.new }
 {
@@ -120,7 +120,7 @@ fn one(
     log: &mut [u32],
     mut meter: Meter,
 ) -> Step
-    requires { Roomy bounds.locals bounds.left bounds.room work.old log.old × ((h ≤ most_operands_lem) × (0 < at.n)) }
+    requires { Roomy bounds.locals bounds.left bounds.room work.old log.old × ((h ≤ most_operands) × (0 < at.n)) }
     ensures steps { Steps words.now bounds.room bounds.left at.n (drop at.p words.now) bounds.locals h work.old (world meter.fuel meter.logged log.old arrays.old) result.out result.at.n (drop result.at.p words.now) result.h work.new (world result.meter.fuel result.meter.logged log.new arrays.new) }
     ensures grows { Grows bounds.room meter.logged log.old result.meter.logged log.new }
 {

@@ -1,16 +1,14 @@
 -- Document 01 §4 and §5 at their edges: each limit and one past it, each rule broken once, fuel to the unit, the ends of the range.
-use Rattle.std.specs.Prelude.{Bool, true, false, List, [], ◌∷◌, ◌++◌, ◌≡◌, refl, ℕ, zero, suc, ◌-◌, ◌+◌, ◌^◌, length, replicate}
+use Rattle.std.specs.Prelude.{true, false, List, [], ◌∷◌, ◌++◌, ◌≡◌, refl, ℕ, zero, suc, ◌+◌}
 use Rattle.std.proofs.Math.Option.{Option, none, some}
-use Prim.Native.String.{String}
 use Rattle.word.specs.Word.{add_w, sub_w, mul_w, neg_w, negative, magnitude, lt_s, quot_s, rem_s, bit_of}
 use Rattle.language.specs.Tree.{Name, Ty, int, bool, negate, not, eq, ne, lt, le, gt, ge, add, sub, mul, div, rem, or, and, strict, Strict, Param, Item, array, function, Expr, Stmt, Block, number, truth, name, element, call, unary, binary, declare, assign, store, when, choose, while, leave, give, emit, run, end, then}
 use Rattle.language.specs.Tree as T
 use Rattle.language.specs.Tokens.{bytes, same}
 use Rattle.language.specs.Core.{Program}
-use Rattle.language.specs.Core as C
-use Rattle.language.specs.Rules.{Ruled, keeps, breaks, main_name, elaborate, ◌>>=◌, need, found, global_of, local_of, array_of, function_of, declare as declareItem, declare_all, main_of, want, changed, joined, combined, indexed, fit, called, known, expr, exprs, fresh, leaves, gives, stmt, block as block_of, parameters, is_return, ends_in_return, function_from, functions_from}
-use Rattle.language.specs.Meaning.{World, Stop, trapped, out_of_fuel, Outcome, finished, stopped, Run, run_of, bind, begin, apply, operate, read, write, fetch, assign as assignSlot, rounds, append, eval, evals, exec, block, back, call_at}
-use Rattle.language.specs.Examples.{var, ◌⟨◌⟩◌, minus, body, one, param, main}
+use Rattle.language.specs.Rules.{Ruled, keeps, breaks, main_name, elaborate, ◌>>=◌, need, found, global_of, local_of, array_of, function_of, declare as declare_item, declare_all, main_of, want, changed, joined, combined, indexed, fit, called, known, expr, exprs, fresh, leaves, gives, stmt, block as block_of, parameters, is_return, ends_in_return, function_from, functions_from}
+use Rattle.language.specs.Meaning.{trapped, out_of_fuel, Outcome, finished, stopped, Run, run_of, bind, begin, apply, operate, read, write, fetch, assign as assign_slot, rounds, append, eval, evals, exec, block, back, call_at}
+use Rattle.language.specs.Examples.{◌⟨◌⟩◌, minus, body, one, param, main}
 
 -- what is left of the fuel that is given, with the log's room that is given
 pub record Left : Type 0 where
@@ -119,5 +117,5 @@ pub record Edges : Type 0 where
   pub and_needs_both : runs (elaborate (main (when 0 (binary 0 and (truth true) (truth false)) (body (emit 0 (number 1) ∷ [])) ∷ when 0 (binary 0 or (truth false) (truth true)) (body (emit 0 (number 2) ∷ [])) ∷ []) ∷ []) 0) [] 100 9 ≡ ends finished (2 ∷ []) [] 90
 
 pub edges : Edges
-unfolding bytes ◌>>=◌ need found same global_of local_of array_of function_of declareItem declare_all main_of want changed joined combined indexed fit called known expr exprs fresh leaves gives stmt block_of parameters is_return ends_in_return function_from functions_from elaborate run_of bind begin apply operate read write fetch assignSlot rounds append eval evals exec block back call_at add_w sub_w mul_w neg_w negative magnitude lt_s quot_s rem_s bit_of
+unfolding bytes ◌>>=◌ need found same global_of local_of array_of function_of declare_item declare_all main_of want changed joined combined indexed fit called known expr exprs fresh leaves gives stmt block_of parameters is_return ends_in_return function_from functions_from elaborate run_of bind begin apply operate read write fetch assign_slot rounds append eval evals exec block back call_at add_w sub_w mul_w neg_w negative magnitude lt_s quot_s rem_s bit_of
 edges = record { arrays_64 = refl; arrays_65 = refl; elements_16384 = refl; elements_16385 = refl; size_4097 = refl; size_0 = refl; functions_256 = refl; functions_257 = refl; parameters_8 = refl; parameters_9 = refl; locals_64 = refl; locals_65 = refl; parameter_twice = refl; main_an_array = refl; main_with_a_parameter = refl; main_with_a_result = refl; side_by_side = refl; hidden_in_a_block = refl; named_like_a_function = refl; after_its_block = refl; array_without_index_assigned = refl; function_without_a_call = refl; named_twice = refl; array_named_twice = refl; lets_of_blocks_count = refl; no_result_in_an_expression = refl; two_types_compared = refl; condition_before_its_block = refl; both_blocks_return = refl; return_not_last = refl; return_without_a_value = refl; return_of_another_type = refl; return_with_a_value = refl; result_dropped = refl; too_many_arguments = refl; main_calls_itself = refl; trap_at_the_last_unit = refl; one_unit_less = refl; no_fuel_for_nothing = refl; no_fuel_for_a_statement = refl; no_fuel_for_its_node = refl; no_room = refl; just_enough = refl; trap_before_full = refl; while_once = refl; while_no_condition = refl; index_below_0 = refl; index_least = refl; index_minus_0 = refl; order_at_the_ends = refl; returns_from_a_loop = refl; and_skips = refl; or_skips = refl; greater_and_less = refl; not_true = refl; and_needs_both = refl }

@@ -1,5 +1,5 @@
 -- Document 01 §6 and §7: its vectors, computed. Trees are written out here, most of them with 0 for every place.
-use Rattle.std.specs.Prelude.{Bool, true, false, List, [], ◌∷◌, ◌++◌, ◌≡◌, refl, ℕ, ◌-◌, ◌^◌}
+use Rattle.std.specs.Prelude.{true, false, List, [], ◌∷◌, ◌≡◌, refl, ℕ, ◌-◌, ◌^◌}
 use Rattle.std.proofs.Math.Option.{Option, none, some}
 use Prim.Native.String.{String}
 use Rattle.word.specs.Word.{add_w, sub_w, mul_w, neg_w, negative, magnitude, lt_s, quot_s, rem_s, bit_of}
@@ -8,8 +8,8 @@ use Rattle.language.specs.Tree as T
 use Rattle.language.specs.Tokens.{bytes, same}
 use Rattle.language.specs.Core.{Program}
 use Rattle.language.specs.Core as C
-use Rattle.language.specs.Rules.{Ruled, keeps, breaks, main_name, elaborate, ◌>>=◌, need, found, global_of, local_of, array_of, function_of, declare as declareItem, declare_all, main_of, want, changed, joined, combined, indexed, fit, called, known, expr, exprs, fresh, leaves, gives, stmt, block as block_of, parameters, is_return, ends_in_return, function_from, functions_from}
-use Rattle.language.specs.Meaning.{World, Stop, trapped, out_of_fuel, Outcome, finished, stopped, Run, run_of, bind, begin, apply, operate, read, write, fetch, assign as assignSlot, rounds, append, eval, evals, exec, block, back, call_at}
+use Rattle.language.specs.Rules.{Ruled, keeps, breaks, main_name, elaborate, ◌>>=◌, need, found, global_of, local_of, array_of, function_of, declare as declare_item, declare_all, main_of, want, changed, joined, combined, indexed, fit, called, known, expr, exprs, fresh, leaves, gives, stmt, block as block_of, parameters, is_return, ends_in_return, function_from, functions_from}
+use Rattle.language.specs.Meaning.{trapped, out_of_fuel, Outcome, finished, stopped, Run, run_of, bind, begin, apply, operate, read, write, fetch, assign as assign_slot, rounds, append, eval, evals, exec, block, back, call_at}
 
 -- Writing trees
 
@@ -209,5 +209,5 @@ pub record Vectors : Type 0 where
   pub minus_minus : runs (elaborate (main (emits (unary 0 negate (minus 5) ∷ [])) ∷ []) 0) [] ≡ ends finished (5 ∷ []) [] 4
 
 pub vectors : Vectors
-unfolding bytes ◌>>=◌ need found same global_of local_of array_of function_of declareItem declare_all main_of want changed joined combined indexed fit called known expr exprs fresh leaves gives stmt block_of parameters is_return ends_in_return function_from functions_from elaborate run_of bind begin apply operate read write fetch assignSlot rounds append eval evals exec block back call_at add_w sub_w mul_w neg_w negative magnitude lt_s quot_s rem_s bit_of
+unfolding bytes ◌>>=◌ need found same global_of local_of array_of function_of declare_item declare_all main_of want changed joined combined indexed fit called known expr exprs fresh leaves gives stmt block_of parameters is_return ends_in_return function_from functions_from elaborate run_of bind begin apply operate read write fetch assign_slot rounds append eval evals exec block back call_at add_w sub_w mul_w neg_w negative magnitude lt_s quot_s rem_s bit_of
 vectors = record { G-runs = refl; G-core = refl; Z-quiet = refl; Z-one = refl; Z-two = refl; row_nothing = refl; row_emit = refl; row_trap_1 = refl; row_division = refl; row_wraps = refl; row_trap_2 = refl; row_order = refl; row_index_last = refl; row_62 = refl; row_63 = refl; row_endless = refl; no_main = refl; let_of_itself = refl; hiding = refl; ordered_truths = refl; falls_off = refl; falls_through = refl; no_index = refl; equal_truths = refl; minus_minus = refl }

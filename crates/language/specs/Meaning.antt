@@ -1,5 +1,5 @@
 -- Document 01 §5: what a run of a program does.
-use Rattle.std.specs.Prelude.{Bool, true, false, not, List, [], ◌∷◌, ◌++◌, ℕ, zero, suc, ◌+◌, ◌-◌, ltb, eqb, length, get_or, set, replicate}
+use Rattle.std.specs.Prelude.{not, List, [], ◌∷◌, ◌++◌, ℕ, zero, suc, ◌+◌, ltb, eqb, length, get_or, set, replicate}
 use Rattle.word.specs.Choice.{pick}
 use Rattle.word.specs.Word.{add_w, sub_w, mul_w, neg_w, quot_s, rem_s, lt_s, bit_of}
 use Rattle.language.specs.Tree.{Unary, negate, Strict, eq, ne, lt, le, gt, ge, add, sub, mul, div, rem}

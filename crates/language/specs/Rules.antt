@@ -3,7 +3,7 @@
 -- then functions, from the first to the last, each in the order of its text: of an expression or a statement first the expressions in it, then
 -- its own rules, then its blocks; of a function its parameters, then its block, then that it ends in return, at its name.
 -- The place is that of the token which the tree's node carries; the text's end where there is no `main`.
-use Rattle.std.specs.Prelude.{Bool, true, false, List, [], ◌∷◌, ℕ, zero, suc, ◌+◌, ◌-◌, ltb, leb, eqb, length}
+use Rattle.std.specs.Prelude.{Bool, true, false, List, [], ◌∷◌, ℕ, suc, ◌+◌, ◌-◌, ltb, leb, eqb, length}
 use Rattle.std.proofs.Math.Option.{Option, none, some}
 use Rattle.word.specs.Choice.{pick, both}
 use Rattle.language.specs.Tree.{Place, Name, Ty, int, bool, Unary, negate, not, Strict, eq, ne, lt, le, gt, ge, add, sub, mul, div, rem, Binary, or, and, strict, Param, Item, array, function}
@@ -107,8 +107,8 @@ most_functions = 256
 abbrev pub most_parameters : ℕ
 most_parameters = 8
 
-abbrev pub most_locals_lem : ℕ
-most_locals_lem = 64
+abbrev pub most_locals : ℕ
+most_locals = 64
 
 -- what is declared so far, the last first, and how much
 pub record Declared : Type 0 where
@@ -307,7 +307,7 @@ module _ (globals : List Global) where
         y ← expr s.visible e
         v ← want t at y
         fresh s.visible at x
-        need (ltb s.count most_locals_lem) at
+        need (ltb s.count most_locals) at
         keeps (C.put s.count v, record { visible = record { name = x; type = t; slot = s.count } ∷ s.visible; count = suc s.count })
       stmt (T.assign at x e) s = do
         y ← expr s.visible e

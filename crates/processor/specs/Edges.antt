@@ -1,12 +1,11 @@
 -- Document 03 at its edges: words that no row has, operands at the ends of their range, the ends of memory and code, every stop.
-use Rattle.std.specs.Prelude.{ℕ, ◌+◌, ◌-◌, ◌^◌, ◌≡◌, refl, true, false, List, [], ◌∷◌, ◌++◌, map, length, replicate}
+use Rattle.std.specs.Prelude.{ℕ, ◌≡◌, refl, true, false, List, [], ◌∷◌, ◌++◌, map, length}
 use Rattle.word.specs.Word as W
 use Rattle.word.specs.Bytes.{word_of, bytes_of, bytes_of_words}
 use Rattle.processor.specs.declared.Alu.TheVariants.{Add, Sub, Sra, Srl, Sll, Slt, Sltu, Xor, Or, And, Mul, Mulh, Mulhu, Mulhsu, Div, Divu, Rem, Remu}
 use Rattle.processor.specs.declared.Cond.TheVariants.{Eq, Ne, Lt, Ge, Ltu, Geu}
 use Rattle.processor.specs.declared.Width.TheVariants.{Byte, Half, Word, ByteU, HalfU}
-use Rattle.processor.specs.declared.Instr.{Instr}
-use Rattle.processor.specs.declared.Instr.TheVariants.{Lui, Auipc, Jal, Jalr, Branch, Load, Store, OpImm, Shift, Op, Fence, Ecall, Ebreak, Unknown}
+use Rattle.processor.specs.declared.Instr.TheVariants.{Lui, Jal, Branch, Load, Store, Shift, Op, Fence, Unknown}
 use Rattle.processor.specs.declared.Status.{Status}
 use Rattle.processor.specs.declared.Status.TheVariants.{Going, Exit, Trap, Fault, Limit}
 use Rattle.processor.specs.Formats as F
@@ -18,7 +17,6 @@ use Rattle.processor.specs.Execute as E
 use Rattle.processor.specs.Execute.{alu_of, cond_of, exec_of, reaches, read_at, write_at}
 use Rattle.processor.specs.Run as R
 use Rattle.processor.specs.Run.{Run, run_of, onward, in_code}
-use Rattle.processor.specs.Image.{Lent, answer_of, fits, run_image}
 
 -- Words beside those of the table: funct7 and funct3 that no row has, and the ends of immediates.
 decoding : map decode_of (

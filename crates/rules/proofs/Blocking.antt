@@ -9,7 +9,7 @@ use lib.Seq.{sets}
 use Rattle.language.specs.Tree.{Place, Ty}
 use Rattle.language.specs.Tree as T
 use Rattle.language.specs.Core as C
-use Rattle.language.specs.Rules.{Ruled, keeps, breaks, Global, Scope, stmt, block, most_locals_lem}
+use Rattle.language.specs.Rules.{Ruled, keeps, breaks, Global, Scope, stmt, block, most_locals}
 use Rattle.grammar.specs.Flat as G
 use Rattle.flat.specs.Statements.{flat, flats}
 use Rattle.flat.specs.Words as F
@@ -52,7 +52,7 @@ pub record Blocking (text : List ℕ) (gs : List Global) (result : Option Ty) (t
   pub seen : l₀ ≤ l
   pub visible : l ≤ count
   pub counted : count₀ ≤ count
-  pub few : count ≤ most_locals_lem
+  pub few : count ≤ most_locals
   pub for_locals : length locals ≡ length locals₀
   pub for_types : length types ≡ length types₀
   pub for_starts : length starts ≡ length starts₀
@@ -144,7 +144,7 @@ module _ {text : List ℕ} {gs : List Global} {result : Option Ty} {tree : List 
     pub block_short : {core' : List ℕ} → length tree < at + 8 → Whole (Now.Broken 0) locals core'
     block_short e = record { by = λ b more ew en nm. absurd (omega (arith, e, there (stands b more ew en nm))); kept = c.kept; bounded = tt }
 
-    module _ {kind place size items more-items statements more-statements rest : ℕ} (hd : Heads (drop at tree) kind place size items more-items statements more-statements rest) where
+    module _ {kind place size items more_items statements more_statements rest : ℕ} (hd : Heads (drop at tree) kind place size items more_items statements more_statements rest) where
       pub block_cut : {core' : List ℕ} → length tree < at + (8 + rest) → Whole (Now.Broken 0) locals core'
       block_cut e = record { by = λ b more ew en nm. absurd (omega (arith, e, hd.is_rest, there (stands b more ew en nm))); kept = c.kept; bounded = tt }
 

@@ -142,7 +142,7 @@ module _ {tree : List ℕ} {p n i at : ℕ} {ends : Bool} (c : Ending tree p n i
     pub ending_short : {r : Bool} → length tree < at + 8 → Ends n (drop p tree) r
     ending_short e = record { by = λ b more ew en. absurd (omega (arith, e, there (stands b more ew en))) }
 
-    module _ {kind place size items more-items statements more-statements rest : ℕ} (hd : Heads (drop at tree) kind place size items more-items statements more-statements rest) where
+    module _ {kind place size items more_items statements more_statements rest : ℕ} (hd : Heads (drop at tree) kind place size items more_items statements more_statements rest) where
       pub ending_cut : {r : Bool} → length tree < at + (8 + rest) → Ends n (drop p tree) r
       ending_cut e = record { by = λ b more ew en. absurd (omega (arith, e, hd.is_rest, there (stands b more ew en))) }
 

@@ -63,23 +63,23 @@ module _ {B : Type 0} (p : Place) (K : Node → Ruled B) (H : Typed → Ruled B)
       go none = refl
       go (some l) = h l
 
-  abbrev element_node_lem : ℕ → Array → Node
-  element_node_lem start a = record { takes = 1; type = int; start = start; begins = 1; kind = 2; a = a.offset; b = a.size }
+  abbrev element_node_here : ℕ → Array → Node
+  element_node_here start a = record { takes = 1; type = int; start = start; begins = 1; kind = 2; a = a.offset; b = a.size }
 
   element_case : (globals : List Global) (x : Name) (t : Typed) (start : ℕ) →
-      ((a : Array) → K (element_node_lem start a) ≡ H (record { type = int; expr = C.element a t.expr })) →
-      found (and_then (global_of globals x) (λ g. and_then (is_array g.thing) (λ r. sole (same_ty int t.type) (element_node_lem start r)))) p >>= K ≡ indexed globals p x t >>= H
+      ((a : Array) → K (element_node_here start a) ≡ H (record { type = int; expr = C.element a t.expr })) →
+      found (and_then (global_of globals x) (λ g. and_then (is_array g.thing) (λ r. sole (same_ty int t.type) (element_node_here start r)))) p >>= K ≡ indexed globals p x t >>= H
   unfolding indexed want need array_of found sole ◌>>=◌
   element_case globals x t start h = go (global_of globals x) (same_ty int t.type)
     where
-      thing : (o : Thing) (b : Bool) → found (and_then (is_array o) (λ r. sole b (element_node_lem start r))) p >>= K ≡
+      thing : (o : Thing) (b : Bool) → found (and_then (is_array o) (λ r. sole b (element_node_here start r))) p >>= K ≡
           ((need b p >>= λ _. keeps t.expr) >>= λ k. found (is_array o) p >>= λ a. keeps (record { type = int; expr = C.element a k })) >>= H
       thing (an_array a) true = h a
       thing (an_array a) false = refl
       thing (a_function s) true = refl
       thing (a_function s) false = refl
 
-      go : (o : Option Global) (b : Bool) → found (and_then o (λ g. and_then (is_array g.thing) (λ r. sole b (element_node_lem start r)))) p >>= K ≡
+      go : (o : Option Global) (b : Bool) → found (and_then o (λ g. and_then (is_array g.thing) (λ r. sole b (element_node_here start r)))) p >>= K ≡
           ((need b p >>= λ _. keeps t.expr) >>= λ k. found (and_then o (λ g. is_array g.thing)) p >>= λ a. keeps (record { type = int; expr = C.element a k })) >>= H
       go none true = refl
       go none false = refl
@@ -293,12 +293,12 @@ module _ (text : List ℕ) (globals : List Global) (locals : List Local) where
       two_case p _ _ bool bool f x y _
       (ap (λ (ws : List ℕ). go_on m more (record { operands = record { type = bool; start = length s.words } ∷ s.operands; words = ws })) (sides x.expr y.expr (item 0 k ∷ []) (item 0 I.join ∷ []) s.words h ∙ ap (λ (us : List Item). s.words ++ items_words us []) (sym q)))
 
-  abbrev call_node_lem : ℕ → ℕ → ℕ → Signature → Ty → Node
-  call_node_lem begins n start s t = record { takes = n; type = t; start = start; begins = begins; kind = 3; a = s.number; b = n }
+  abbrev call_node_here : ℕ → ℕ → ℕ → Signature → Ty → Node
+  call_node_here begins n start s t = record { takes = n; type = t; start = start; begins = begins; kind = 3; a = s.number; b = n }
 
   -- the arguments of a call that is made of them
   pub args_fit : (sg : Signature) (us : List Typed) (n begins : ℕ) (t : Ty) (s : Scanned) → length us ≡ n →
-      call_node sg n (length (afters us s).words) begins t (afters us s).operands ≡ sole (same_types (types_of us) sg.parameters) (call_node_lem begins (length us) (length s.words) sg t)
+      call_node sg n (length (afters us s).words) begins t (afters us s).operands ≡ sole (same_types (types_of us) sg.parameters) (call_node_here begins (length us) (length s.words) sg t)
   unfolding call_node uppermost
   args_fit sg us n begins t s e =
       rw (← e, le-leb _ _ (afters_length us s), afters_types us s (length us) 0 [] (omega arith), append-nil (types_of us), afters_start us s) refl
@@ -307,7 +307,7 @@ module _ (text : List ℕ) (globals : List Global) (locals : List Local) where
       found (node_of text globals locals 3 p (length x) n (length (afters us s).words) (afters us s).operands) p >>= (λ v. go_on m more (added v (afters us s))) ≡ called globals p x us >>= λ u. go_on m more (after u s)
   unfolding node_of called_node after added code
   call_after p x us n m more s e c h =
-      rw e (called_case p _ _ globals x us (λ sg t. call_node sg n (length (afters us s).words) 1 t (afters us s).operands) (λ sg t. call_node_lem 1 (length us) (length s.words) sg t)
+      rw e (called_case p _ _ globals x us (λ sg t. call_node sg n (length (afters us s).words) 1 t (afters us s).operands) (λ sg t. call_node_here 1 (length us) (length s.words) sg t)
       (λ sg t. args_fit sg us n 1 t s c)
       (λ sg t. rw (afters_drop us s (length us) 0 (omega arith)) (ap (λ (ws : List ℕ). go_on m more (record { operands = record { type = t; start = length s.words } ∷ s.operands; words = ws })) (call_words us sg.number 1 s (omega (arith, h))))))
 

@@ -8,14 +8,14 @@ use lib.Seq.{get_or-drop, drop-drop, drop_at}
 use Rattle.language.specs.Tree as T
 use Rattle.grammar.specs.Flat as G
 use Rattle.grammar.proofs.FlatLaws.{expr_linear}
-use Rattle.language.specs.Rules.{most_locals_lem}
+use Rattle.language.specs.Rules.{most_locals}
 use Rattle.rules.specs.Post.{Room, HeaderRoom, most_entries}
 use Rattle.rules.specs.Statements.{Heads, BlockRoom, StmtRoom}
 use Rattle.rules.proofs.Lengths.{expr_words_lem}
 
-pub heads : (tree : List ℕ) (p : ℕ) {kind at size items more-items statements more-statements rest : ℕ} →
-    kind ≡ get_or tree p 0 → at ≡ get_or tree (p + 1) 0 → size ≡ get_or tree (p + 2) 0 → items ≡ get_or tree (p + 3) 0 → more-items ≡ get_or tree (p + 4) 0 → statements ≡ get_or tree (p + 5) 0 → more-statements ≡ get_or tree (p + 6) 0 → rest ≡ get_or tree (p + 7) 0 →
-    Heads (drop p tree) kind at size items more-items statements more-statements rest
+pub heads : (tree : List ℕ) (p : ℕ) {kind at size items more_items statements more_statements rest : ℕ} →
+    kind ≡ get_or tree p 0 → at ≡ get_or tree (p + 1) 0 → size ≡ get_or tree (p + 2) 0 → items ≡ get_or tree (p + 3) 0 → more_items ≡ get_or tree (p + 4) 0 → statements ≡ get_or tree (p + 5) 0 → more_statements ≡ get_or tree (p + 6) 0 → rest ≡ get_or tree (p + 7) 0 →
+    Heads (drop p tree) kind at size items more_items statements more_statements rest
 heads tree p e₀ e₁ e₂ e₃ e₄ e₅ e₆ e₇ = record {
   is_kind = e₀ ∙ (ap (λ (i : ℕ). get_or tree i 0) {x = p} {y = p + 0} (omega arith) ∙ sym (get_or-drop p tree 0 0));
   is_at = e₁ ∙ sym (get_or-drop p tree 1 0);
@@ -53,7 +53,7 @@ module _ {tree : List ℕ} {g : ℕ} {locals : List ℕ} {l count : ℕ} {types 
   header_room = record { after = room_on 8 (p + 8) (q + 8) (omega arith) refl refl s.all.room.locals refl refl refl; header = omega (arith, s.all.room.for_core, s.whole) }
 
   -- a block k words on, with the locals that are then visible
-  pub block_room : {locals' : List ℕ} {count' : ℕ} {types' starts' core' : List ℕ} (k j i : ℕ) → k ≤ 8 + rest → j ≡ p + k → i ≡ q + k → l ≤ count' → count' ≤ most_locals_lem → length locals' ≡ length locals → length types' ≡ length types → length starts' ≡ length starts → length core' ≡ length core →
+  pub block_room : {locals' : List ℕ} {count' : ℕ} {types' starts' core' : List ℕ} (k j i : ℕ) → k ≤ 8 + rest → j ≡ p + k → i ≡ q + k → l ≤ count' → count' ≤ most_locals → length locals' ≡ length locals → length types' ≡ length types → length starts' ≡ length starts → length core' ≡ length core →
       BlockRoom tree g locals' l count' types' starts' core' j i
   block_room k j i h ej ei a b el et es ec = record {
     room = room_on k j i h ej ei s.all.room.locals et es ec;

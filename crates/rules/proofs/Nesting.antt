@@ -12,7 +12,7 @@ use Rattle.word.specs.Choice.{pick, both}
 use Rattle.language.specs.Tree.{Place, Ty, bool}
 use Rattle.language.specs.Tree as T
 use Rattle.language.specs.Core as C
-use Rattle.language.specs.Rules.{Ruled, keeps, breaks, ◌>>=◌, Global, Local, Scope, want, expr, stmt, block, is_return, ends_in_return, most_locals_lem}
+use Rattle.language.specs.Rules.{Ruled, keeps, breaks, ◌>>=◌, Global, Local, Scope, want, expr, stmt, block, is_return, ends_in_return, most_locals}
 use Rattle.grammar.specs.Flat as G
 use Rattle.flat.specs.Items.{code}
 use Rattle.flat.specs.Statements.{flat, flats}
@@ -322,5 +322,5 @@ module _ {text : List ℕ} {gs : List Global} {locals : List ℕ} {l count : ℕ
         go a b = record { kept = both_kept; within = record { visible = omega arith; counted = omega (arith, a.0, b.0); among = λ h. omega (arith, h, a.0, b.0); few = λ h. b.1 } }
 
 pub counted_so : {text : List ℕ} {gs : List Global} {locals : List ℕ} {l count : ℕ} {result : Option Ty} {n : ℕ} {ws : List ℕ} {q : ℕ} {core : List ℕ} {r : Counted} {locals₁ core₁ : List ℕ} {c : ℕ} → Blocks text gs locals l count result n ws q core r locals₁ core₁ → r ≡ Now.Count c →
-    (count ≤ c) × (c ≤ most_locals_lem)
+    (count ≤ c) × (c ≤ most_locals)
 counted_so {count = count} y f = subst (CountCase count) f y.bounded

@@ -122,26 +122,26 @@ run_short {at = at} {x} h = record { by = λ xs more ew en er nm. absurd (omega 
 
 module _ (text : List ℕ) (gs : List Global) (locals : List ℕ) (l count : ℕ) (result : Option Ty) (at size n rest : ℕ) (ws : List ℕ) (q : ℕ) (core : List ℕ) {r : Out} {ts ss core₁ : List ℕ}
     (x : Scans text gs (locals_in text locals l) (n - 1) ws (q + 8) core r ts ss core₁) (few : n < 2 ^ 32) where
-  abbrev stmt_of_lem : T.Args → Ruled (C.Stmt × Scope gs)
-  stmt_of_lem xs = stmt gs result (T.run at (part text at size) xs) (scope_of gs text locals l count)
+  abbrev stmt_of_here : T.Args → Ruled (C.Stmt × Scope gs)
+  stmt_of_here xs = stmt gs result (T.run at (part text at size) xs) (scope_of gs text locals l count)
 
-  abbrev args_of_lem : T.Args → Ruled (List Typed)
-  args_of_lem xs = exprs gs (locals_in text locals l) xs
+  abbrev args_of_here : T.Args → Ruled (List Typed)
+  args_of_here xs = exprs gs (locals_in text locals l) xs
 
   abbrev Said : Step → List ℕ → Type 0
   Said r core' = Runs text gs locals l count result at (part text at size) n rest ws q core r locals core'
 
-  scanned : (xs : T.Args) (more : List ℕ) → ws ≡ G.run_words at (part text at size) xs more → n ≡ G.sizes xs + 1 → NamedArgs text xs → scan text gs (locals_in text locals l) (n - 1) ws nothing_scanned ≡ args_of_lem xs >>= λ us. keeps (afters us nothing_scanned)
+  scanned : (xs : T.Args) (more : List ℕ) → ws ≡ G.run_words at (part text at size) xs more → n ≡ G.sizes xs + 1 → NamedArgs text xs → scan text gs (locals_in text locals l) (n - 1) ws nothing_scanned ≡ args_of_here xs >>= λ us. keeps (afters us nothing_scanned)
   unfolding scan G.run_words
   scanned xs more ew en nm = ap (λ (us : List ℕ). scan text gs (locals_in text locals l) (n - 1) us nothing_scanned) ew ∙ scan_args text gs (locals_in text locals l) xs (n - 1) 0 _ nothing_scanned nm (omega (arith, en)) (omega (arith, en, few))
 
-  stop_at : {b : Place} (xs : T.Args) → args_of_lem xs ≡ breaks b → stmt_of_lem xs ≡ breaks b
+  stop_at : {b : Place} (xs : T.Args) → args_of_here xs ≡ breaks b → stmt_of_here xs ≡ breaks b
   unfolding stmt
   stop_at xs f = stopped _ f
 
   pub args_fault : {b : Place} {core' : List ℕ} → r ≡ Broken b → Said (To.Broken b) core'
   args_fault {b} d = record {
-    by = λ xs more ew en er nm. stop_at xs (unheld (args_of_lem xs) (λ us. afters us nothing_scanned) b (sym (scanned xs more ew en nm) ∙ subst (λ (o : Out). ScanCase text gs (locals_in text locals l) (n - 1) ws (q + 8) core o ts ss core₁) d x.by));
+    by = λ xs more ew en er nm. stop_at xs (unheld (args_of_here xs) (λ us. afters us nothing_scanned) b (sym (scanned xs more ew en nm) ∙ subst (λ (o : Out). ScanCase text gs (locals_in text locals l) (n - 1) ws (q + 8) core o ts ss core₁) d x.by));
   }
 
   module _ {h : ℕ} (d : r ≡ Done h) where
@@ -149,7 +149,7 @@ module _ (text : List ℕ) (gs : List Global) (locals : List ℕ) (l count : ℕ
     wrote = subst (λ (o : Out). ScanCase text gs (locals_in text locals l) (n - 1) ws (q + 8) core o ts ss core₁) d x.by
 
     abbrev Args-held : T.Args → Type 0
-    Args-held xs = Held (args_of_lem xs) (λ us. afters us nothing_scanned) (record { operands = operands_in ts ss h; words = wrote.words })
+    Args-held xs = Held (args_of_here xs) (λ us. afters us nothing_scanned) (record { operands = operands_in ts ss h; words = wrote.words })
 
     -- how many there are stands in the call's item
     module _ (many : ℕ) (em : many ≡ get_or (drop (4 * (n - 1)) ws) 3 0) (ok : Bool) (takes ty start begins kind u v : ℕ) (z : made ok takes ty start begins kind u v ≡ dropped_node text gs at size many (operands_in ts ss h)) where
@@ -158,19 +158,19 @@ module _ (text : List ℕ) (gs : List Global) (locals : List ℕ) (l count : ℕ
       the_many xs more ew en = em ∙ (ap (λ (us : List ℕ). get_or (drop (4 * (n - 1)) us) 3 0) ew ∙ ap (λ (us : List ℕ). get_or us 3 0) (past_args xs (4 * (n - 1)) _ (omega (arith, en))))
 
       decided : {r : Step} {core' : List ℕ} →
-          ((xs : T.Args) (a : Args-held xs) → length a.value ≡ many → n ≡ G.sizes xs + 1 → rest ≡ 4 * G.sizes xs + 4 → StmtCase gs text (stmt_of_lem xs) q core r locals core') → Said r core'
+          ((xs : T.Args) (a : Args-held xs) → length a.value ≡ many → n ≡ G.sizes xs + 1 → rest ≡ 4 * G.sizes xs + 4 → StmtCase gs text (stmt_of_here xs) q core r locals core') → Said r core'
       decided {r} {core'} k = record {
         by = λ xs more ew en er nm.
-            go xs more ew en er (held (args_of_lem xs) (λ us. afters us nothing_scanned) _ (sym (scanned xs more ew en nm) ∙ wrote.is));
+            go xs more ew en er (held (args_of_here xs) (λ us. afters us nothing_scanned) _ (sym (scanned xs more ew en nm) ∙ wrote.is));
       }
         where
-          go : (xs : T.Args) (more : List ℕ) → ws ≡ G.run_words at (part text at size) xs more → n ≡ G.sizes xs + 1 → rest ≡ length (G.run_words at (part text at size) xs []) → Args-held xs → StmtCase gs text (stmt_of_lem xs) q core r locals core'
+          go : (xs : T.Args) (more : List ℕ) → ws ≡ G.run_words at (part text at size) xs more → n ≡ G.sizes xs + 1 → rest ≡ length (G.run_words at (part text at size) xs []) → Args-held xs → StmtCase gs text (stmt_of_here xs) q core r locals core'
           go xs more ew en er a = k xs a (((sized_all gs (locals_in text locals l) xs).holds a.value a.is).count ∙ sym (the_many xs more ew en)) en (er ∙ run_extent at (part text at size) xs)
 
       the_node : (xs : T.Args) (a : Args-held xs) → dropped_node text gs at size many (afters a.value nothing_scanned).operands ≡ made ok takes ty start begins kind u v
       the_node xs a = ap (λ (c : Scanned). dropped_node text gs at size many c.operands) a.gives ∙ sym z
 
-      wrong_at : (xs : T.Args) (a : Args-held xs) → length a.value ≡ many → ok ≡ false → stmt_of_lem xs ≡ breaks at
+      wrong_at : (xs : T.Args) (a : Args-held xs) → length a.value ≡ many → ok ≡ false → stmt_of_here xs ≡ breaks at
       unfolding stmt made
       wrong_at xs a c f = went _ a.is (own_wrong text gs at size _ a.value many c (the_node xs a ∙ ap (λ (w : Bool). made w takes ty start begins kind u v) f))
 
@@ -182,7 +182,7 @@ module _ (text : List ℕ) (gs : List Global) (locals : List ℕ) (l count : ℕ
       the_call xs a c f = own_fine text gs at size (scope_of gs text locals l count) a.value many c _ (the_node xs a ∙ ap (λ (w : Bool). made w takes ty start begins kind u v) f)
 
       fine_at : (xs : T.Args) (a : Args-held xs) (c : length a.value ≡ many) {core' : List ℕ} → ok ≡ true → core' ≡ sets core q (7 ∷ 0 ∷ 0 ∷ n ∷ 0 ∷ 0 ∷ 0 ∷ rest ∷ items_words (codes (args_of a.value) u 0 0 []) []) →
-          n ≡ length (codes (args_of a.value) u 0 0 []) → rest ≡ 4 * length (codes (args_of a.value) u 0 0 []) → Stated gs text (stmt_of_lem xs) q core l count locals core'
+          n ≡ length (codes (args_of a.value) u 0 0 []) → rest ≡ 4 * length (codes (args_of a.value) u 0 0 []) → Stated gs text (stmt_of_here xs) q core l count locals core'
       unfolding stmt flat stmt_words rest_length
       fine_at xs a c f e en er = record { value = C.run u (args_of a.value); is = went _ a.is (the_call xs a c f).0; there = e ∙ same n rest en er }
         where

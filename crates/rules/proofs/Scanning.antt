@@ -80,11 +80,11 @@ module _ {text : List ℕ} {gs : List Global} {ls : List Local} {n : ℕ} {tree 
         short [] (suc j) s = omega arith
         short (x ∷ ws) (suc j) s = short ws j (omega (arith, s))
 
-    module _ {k place a b to : ℕ} (m : p + 4 * i + 4 ≤ length tree) (four-words : Reads tree (p + 4 * i) k place a b) (et : to ≡ 4 * i) where
+    module _ {k place a b to : ℕ} (m : p + 4 * i + 4 ≤ length tree) (four_words : Reads tree (p + 4 * i) k place a b) (et : to ≡ 4 * i) where
       here : scan text gs ls n (drop p tree) nothing_scanned ≡
           found (node_of text gs ls k place a b to (operands_in ts ss h)) place >>= λ v. scan text gs ls (n - (i + 1)) (drop (p + 4 * (i + 1)) tree) (added v (record { operands = operands_in ts ss h; words = c.words }))
       here =
-          c.rest ∙ (rw (four tree (p + 4 * i) m, ← four-words.is_kind, ← four-words.is_place, ← four-words.is_a, ← four-words.is_b) (one_item text gs ls (n - i) (n - (i + 1)) k place a b (drop (p + 4 * i + 4) tree) _ (omega (arith, l))) ∙
+          c.rest ∙ (rw (four tree (p + 4 * i) m, ← four_words.is_kind, ← four_words.is_place, ← four_words.is_a, ← four_words.is_b) (one_item text gs ls (n - i) (n - (i + 1)) k place a b (drop (p + 4 * i + 4) tree) _ (omega (arith, l))) ∙
           at (length c.words) (p + 4 * i + 4) (c.size ∙ sym et) (omega arith))
         where
           at : (x y : ℕ) → x ≡ to → y ≡ p + 4 * (i + 1) →

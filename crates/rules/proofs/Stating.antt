@@ -256,13 +256,13 @@ module _ (text : List ℕ) (gs : List Global) (locals : List ℕ) (l count : ℕ
   abbrev let_of : T.Expr → T.Stmt
   let_of e = T.declare at (part text at size) u e
 
-  abbrev stmt_of_lem : T.Expr → Ruled (C.Stmt × Scope gs)
-  stmt_of_lem e = stmt gs result (let_of e) (scope_of gs text locals l count)
+  abbrev stmt_of_here : T.Expr → Ruled (C.Stmt × Scope gs)
+  stmt_of_here e = stmt gs result (let_of e) (scope_of gs text locals l count)
 
-  abbrev expr_of_lem : T.Expr → Ruled Typed
-  expr_of_lem e = expr gs (locals_in text locals l) e
+  abbrev expr_of_here : T.Expr → Ruled Typed
+  expr_of_here e = expr gs (locals_in text locals l) e
 
-  declare_stop : {b : Place} (e : T.Expr) → expr_of_lem e ≡ breaks b → stmt_of_lem e ≡ breaks b
+  declare_stop : {b : Place} (e : T.Expr) → expr_of_here e ≡ breaks b → stmt_of_here e ≡ breaks b
   unfolding stmt
   declare_stop e f = stopped _ f
 
@@ -273,7 +273,7 @@ module _ (text : List ℕ) (gs : List Global) (locals : List ℕ) (l count : ℕ
     the_test : b ≡ same_ty u (type_of ty)
     the_test = y ∙ ap (λ (t : Ty). same_ty t (type_of ty)) v
 
-    declare_off : (e : T.Expr) → TypedAs (expr_of_lem e) (q + 8) core ty core₁ → b ≡ false → stmt_of_lem e ≡ breaks at
+    declare_off : (e : T.Expr) → TypedAs (expr_of_here e) (q + 8) core ty core₁ → b ≡ false → stmt_of_here e ≡ breaks at
     unfolding stmt
     declare_off e t f = went _ t.is (stopped _ (want_wrong u at t.value t.type the_test f))
 
@@ -281,7 +281,7 @@ module _ (text : List ℕ) (gs : List Global) (locals : List ℕ) (l count : ℕ
     declare_wrong f = record { by = λ e more ew en er nm. declare_off e (typed q x e more ew en nm d) f }
 
     module _ {c : Bool} (f : b ≡ true) (z : Freshly text gs locals l at size c) where
-      declare_taken : (e : T.Expr) → TypedAs (expr_of_lem e) (q + 8) core ty core₁ → c ≡ false → stmt_of_lem e ≡ breaks at
+      declare_taken : (e : T.Expr) → TypedAs (expr_of_here e) (q + 8) core ty core₁ → c ≡ false → stmt_of_here e ≡ breaks at
       unfolding stmt need
       declare_taken e t k = went _ t.is (went _ (want_fine u at t.value t.type the_test f) (stopped _ (z.is ∙ ap (λ (v : Bool). need v at) k)))
 
@@ -293,15 +293,15 @@ module _ (text : List ℕ) (gs : List Global) (locals : List ℕ) (l count : ℕ
         unfolding need
         is_fresh = z.is ∙ ap (λ (v : Bool). need v at) k
 
-        declare_full : (e : T.Expr) → TypedAs (expr_of_lem e) (q + 8) core ty core₁ → 64 ≤ count → stmt_of_lem e ≡ breaks at
+        declare_full : (e : T.Expr) → TypedAs (expr_of_here e) (q + 8) core ty core₁ → 64 ≤ count → stmt_of_here e ≡ breaks at
         unfolding stmt need
         declare_full e t m = went _ t.is (went _ (want_fine u at t.value t.type the_test f) (went _ is_fresh (stopped _ (ap (λ (v : Bool). need v at) (le-ltb count 64 m)))))
 
         pub declare_many : {locals₂ core₂ : List ℕ} → 64 ≤ count → States text gs locals l count result (λ e. let_of e) n rest ws q core (To.Broken at) locals₂ core₂
         declare_many m = record { by = λ e more ew en er nm. declare_full e (typed q x e more ew en nm d) m }
 
-        declare_at : (e : T.Expr) {locals₂ core₂ : List ℕ} (t : TypedAs (expr_of_lem e) (q + 8) core ty core₁) → count < 64 → Enters locals l at size wanted count locals₂ → core₂ ≡ sets core q (headed 0 count t.value.expr) →
-            Stated gs text (stmt_of_lem e) q core (l + 1) (count + 1) locals₂ core₂
+        declare_at : (e : T.Expr) {locals₂ core₂ : List ℕ} (t : TypedAs (expr_of_here e) (q + 8) core ty core₁) → count < 64 → Enters locals l at size wanted count locals₂ → core₂ ≡ sets core q (headed 0 count t.value.expr) →
+            Stated gs text (stmt_of_here e) q core (l + 1) (count + 1) locals₂ core₂
         unfolding stmt need flat stmt_words rest_length headed
         declare_at e {locals₂} t m w c' = record {
           value = C.put count t.value.expr;

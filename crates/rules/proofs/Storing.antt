@@ -47,8 +47,8 @@ module _ (text : List ℕ) (gs : List Global) (at size : ℕ) {S : Type 0} (s : 
   abbrev own : Ruled (C.Stmt × S)
   own = want int at j >>= λ k. want int at y >>= λ v. array_of gs at (part text at size) >>= λ a. keeps (C.store a k v, s)
 
-  abbrev place_of_lem : Ty → Option Node
-  place_of_lem t = element_node text gs at size (record { type = t; start = 0 })
+  abbrev place_of_here : Ty → Option Node
+  place_of_here t = element_node text gs at size (record { type = t; start = 0 })
 
   -- an element of an array
   abbrev element : Array → Node
@@ -65,7 +65,7 @@ module _ (text : List ℕ) (gs : List Global) (at size : ℕ) {S : Type 0} (s : 
       go true = refl
       go false = refl
 
-  own_element : place_of_lem j.type ≡ none → own ≡ breaks at
+  own_element : place_of_here j.type ≡ none → own ≡ breaks at
   unfolding want need ◌>>=◌ array_of found element_node sole
   own_element = go (global_of gs (part text at size)) (same_ty int j.type) (same_ty int y.type)
     where
@@ -82,7 +82,7 @@ module _ (text : List ℕ) (gs : List Global) (at size : ℕ) {S : Type 0} (s : 
       go none true false h = refl
       go (some g) true c h = thing g.thing c h
 
-  own_fine : (n : Node) → place_of_lem j.type ≡ some n → same_ty int y.type ≡ true → own ≡ keeps (C.store (record { offset = n.a; size = n.b }) j.expr y.expr, s)
+  own_fine : (n : Node) → place_of_here j.type ≡ some n → same_ty int y.type ≡ true → own ≡ keeps (C.store (record { offset = n.a; size = n.b }) j.expr y.expr, s)
   unfolding want need ◌>>=◌ array_of found element_node sole
   own_fine n e f = rw f (go (global_of gs (part text at size)) (same_ty int j.type) e)
     where
@@ -140,16 +140,16 @@ module _ (text : List ℕ) (gs : List Global) (locals : List ℕ) (l count : ℕ
   abbrev store_of : T.Expr → T.Expr → T.Stmt
   store_of i e = T.store at (part text at size) i e
 
-  abbrev stmt_of_lem : T.Expr → T.Expr → Ruled (C.Stmt × Scope gs)
-  stmt_of_lem i e = stmt gs result (store_of i e) (scope_of gs text locals l count)
+  abbrev stmt_of_here : T.Expr → T.Expr → Ruled (C.Stmt × Scope gs)
+  stmt_of_here i e = stmt gs result (store_of i e) (scope_of gs text locals l count)
 
-  abbrev expr_of_lem : T.Expr → Ruled Typed
-  expr_of_lem e = expr gs (locals_in text locals l) e
+  abbrev expr_of_here : T.Expr → Ruled Typed
+  expr_of_here e = expr gs (locals_in text locals l) e
 
   abbrev Said : Step → List ℕ → Type 0
   Said r core' = StatesTwo text gs locals l count result (λ i e. store_of i e) n m rest ws q core r locals core'
 
-  index_stop : {b : Place} (i e : T.Expr) → expr_of_lem i ≡ breaks b → stmt_of_lem i e ≡ breaks b
+  index_stop : {b : Place} (i e : T.Expr) → expr_of_here i ≡ breaks b → stmt_of_here i e ≡ breaks b
   unfolding stmt
   index_stop i e f = stopped _ f
 
@@ -160,35 +160,35 @@ module _ (text : List ℕ) (gs : List Global) (locals : List ℕ) (l count : ℕ
     second : (i e : T.Expr) (more : List ℕ) → ws ≡ G.expr_words i (G.expr_words e more) → n ≡ G.size i → us ≡ G.expr_words e more
     second i e more ew en = eu ∙ (ap (drop (4 * n)) ew ∙ past_expr i (4 * n) (G.expr_words e more) (omega (arith, en)))
 
-    value_stop : {b : Place} (i e : T.Expr) → TypedAs (expr_of_lem i) (q + 8) core index core₁ → expr_of_lem e ≡ breaks b → stmt_of_lem i e ≡ breaks b
+    value_stop : {b : Place} (i e : T.Expr) → TypedAs (expr_of_here i) (q + 8) core index core₁ → expr_of_here e ≡ breaks b → stmt_of_here i e ≡ breaks b
     unfolding stmt
     value_stop i e t f = went _ t.is (stopped _ f)
 
-    the_value : (i e : T.Expr) (more : List ℕ) → ws ≡ G.expr_words i (G.expr_words e more) → n ≡ G.size i → m ≡ G.size e → rest ≡ G.expr_length i + G.expr_length e → NamedExpr text e → ExprCase (expr_of_lem e) (q + 8 + 4 * n) core₁ r₂ core₂
+    the_value : (i e : T.Expr) (more : List ℕ) → ws ≡ G.expr_words i (G.expr_words e more) → n ≡ G.size i → m ≡ G.size e → rest ≡ G.expr_length i + G.expr_length e → NamedExpr text e → ExprCase (expr_of_here e) (q + 8 + 4 * n) core₁ r₂ core₂
     the_value i e more ew en em er ne = (y (omega (arith, en, er, expr_words_lem i []))).by e more (second i e more ew en) em ne
 
     pub value_fault : {b : Place} {core' : List ℕ} → r₂ ≡ Is.Broken b → Said (To.Broken b) core'
     value_fault f = record {
-      by = λ i e more ew en em er ni ne. value_stop i e (typed q x i (G.expr_words e more) ew en ni d) (subst (λ (o : Given). ExprCase (expr_of_lem e) (q + 8 + 4 * n) core₁ o core₂) f (the_value i e more ew en em er ne));
+      by = λ i e more ew en em er ni ne. value_stop i e (typed q x i (G.expr_words e more) ew en ni d) (subst (λ (o : Given). ExprCase (expr_of_here e) (q + 8 + 4 * n) core₁ o core₂) f (the_value i e more ew en em er ne));
     }
 
     module _ {value : ℕ} (f : r₂ ≡ Is.Type value) where
       abbrev Index : T.Expr → Type 0
-      Index i = TypedAs (expr_of_lem i) (q + 8) core index core₁
+      Index i = TypedAs (expr_of_here i) (q + 8) core index core₁
 
       abbrev Value : T.Expr → Type 0
-      Value e = TypedAs (expr_of_lem e) (q + 8 + 4 * n) core₁ value core₂
+      Value e = TypedAs (expr_of_here e) (q + 8 + 4 * n) core₁ value core₂
 
       -- what both expressions give decides
       decided : {r : Step} {core' : List ℕ} →
-          ((i e : T.Expr) (a : Index i) (b : Value e) → n ≡ G.size i → m ≡ G.size e → rest ≡ G.expr_length i + G.expr_length e → StmtCase gs text (stmt_of_lem i e) q core r locals core') →
+          ((i e : T.Expr) (a : Index i) (b : Value e) → n ≡ G.size i → m ≡ G.size e → rest ≡ G.expr_length i + G.expr_length e → StmtCase gs text (stmt_of_here i e) q core r locals core') →
           Said r core'
       decided k = record {
         by = λ i e more ew en em er ni ne.
-            k i e (typed q x i (G.expr_words e more) ew en ni d) (subst (λ (o : Given). ExprCase (expr_of_lem e) (q + 8 + 4 * n) core₁ o core₂) f (the_value i e more ew en em er ne)) en em er;
+            k i e (typed q x i (G.expr_words e more) ew en ni d) (subst (λ (o : Given). ExprCase (expr_of_here e) (q + 8 + 4 * n) core₁ o core₂) f (the_value i e more ew en em er ne)) en em er;
       }
 
-      value_off : (i e : T.Expr) → Index i → Value e → same_ty int (type_of value) ≡ false → stmt_of_lem i e ≡ breaks at
+      value_off : (i e : T.Expr) → Index i → Value e → same_ty int (type_of value) ≡ false → stmt_of_here i e ≡ breaks at
       unfolding stmt
       value_off i e a b h = went _ a.is (went _ b.is (own_value text gs at size _ a.value b.value (ap (same_ty int) b.type ∙ h)))
 
@@ -196,7 +196,7 @@ module _ (text : List ℕ) (gs : List Global) (locals : List ℕ) (l count : ℕ
       value_wrong z h = decided (λ i e a b en em er. value_off i e a b (ap (λ (u : Ty). same_ty u (type_of value)) (sym int_type) ∙ (sym z ∙ h)))
 
       module _ (ok : Bool) (takes ty start begins kind u v : ℕ) (z : made ok takes ty start begins kind u v ≡ element_node text gs at size (record { type = type_of index; start = 0 })) where
-        index_off : (i e : T.Expr) → Index i → Value e → ok ≡ false → stmt_of_lem i e ≡ breaks at
+        index_off : (i e : T.Expr) → Index i → Value e → ok ≡ false → stmt_of_here i e ≡ breaks at
         unfolding stmt made
         index_off i e a b h = went _ a.is (went _ b.is (own_element text gs at size _ a.value b.value
             (ap (λ (w : Ty). element_node text gs at size (record { type = w; start = 0 })) a.type ∙ (sym z ∙ ap (λ (w : Bool). made w takes ty start begins kind u v) h))))
@@ -206,7 +206,7 @@ module _ (text : List ℕ) (gs : List Global) (locals : List ℕ) (l count : ℕ
 
         store_at : (i e : T.Expr) {core' : List ℕ} (a : Index i) (b : Value e) → ok ≡ true → same_ty int (type_of value) ≡ true → core' ≡ sets core q (1 ∷ u ∷ v ∷ n ∷ m ∷ 0 ∷ 0 ∷ rest ∷ items_words (code a.value.expr 0 []) (items_words (code b.value.expr 0 []) [])) →
             n ≡ length (code a.value.expr 0 []) → m ≡ length (code b.value.expr 0 []) → rest ≡ 4 * length (code a.value.expr 0 []) + 4 * length (code b.value.expr 0 []) →
-            Stated gs text (stmt_of_lem i e) q core l count locals core'
+            Stated gs text (stmt_of_here i e) q core l count locals core'
         unfolding stmt made flat stmt_words rest_length
         store_at i e {core'} a b h k c en em er = record {
           value = C.store (record { offset = u; size = v }) a.value.expr b.value.expr;

@@ -7,7 +7,7 @@ use Rattle.word.specs.Choice.{pick}
 use Rattle.language.specs.Tree.{Ty, int, bool}
 use Rattle.language.specs.Tree as T
 use Rattle.language.specs.Core as C
-use Rattle.language.specs.Rules.{Ruled, keeps, breaks, Global, global_of, is_function, and_then, ◌>>=◌, Local, most_locals_lem, want, expr, stmt, block, is_return, ends_in_return}
+use Rattle.language.specs.Rules.{Ruled, keeps, breaks, Global, global_of, is_function, and_then, ◌>>=◌, Local, most_locals, want, expr, stmt, block, is_return, ends_in_return}
 use Rattle.grammar.specs.Flat as G
 use Rattle.flat.specs.Items.{code}
 use Rattle.flat.specs.Statements.{flats}
@@ -24,14 +24,14 @@ use Rattle.rules.specs.declared.Counted.{Counted}
 use Rattle.rules.specs.declared.Counted.TheVariants as Now
 
 -- the eight words of a header
-pub record Heads (ws : List ℕ) (kind at size items more-items statements more-statements rest : ℕ) : Type 0 where
+pub record Heads (ws : List ℕ) (kind at size items more_items statements more_statements rest : ℕ) : Type 0 where
   pub is_kind : kind ≡ word ws 0
   pub is_at : at ≡ word ws 1
   pub is_size : size ≡ word ws 2
   pub is_items : items ≡ word ws 3
-  pub is_more_items : more-items ≡ word ws 4
+  pub is_more_items : more_items ≡ word ws 4
   pub is_statements : statements ≡ word ws 5
-  pub is_more_statements : more-statements ≡ word ws 6
+  pub is_more_statements : more_statements ≡ word ws 6
   pub is_rest : rest ≡ word ws 7
 
 -- The locals: those that were visible stay, and there are no more than the rules let be.
@@ -40,7 +40,7 @@ pub record Within (l count l' count' : ℕ) : Type 0 where
   pub visible : l ≤ l'
   pub counted : count ≤ count'
   pub among : l ≤ count → l' ≤ count'
-  pub few : count ≤ most_locals_lem → count' ≤ most_locals_lem
+  pub few : count ≤ most_locals → count' ≤ most_locals
 
 abbrev pub StepCase : ℕ → ℕ → Step → Type 0
 StepCase l count (To.Next l' count') = Within l count l' count'
@@ -60,7 +60,7 @@ pub record BlockRoom (tree : List ℕ) (g : ℕ) (locals : List ℕ) (l count : 
   pub room : Room tree g l types starts core p q
   pub for_locals : locals_room ≤ length locals
   pub visible : l ≤ count
-  pub few : count ≤ most_locals_lem
+  pub few : count ≤ most_locals
   -- places in the core stay small as p and q go on together
   pub core_far : q + length tree ≤ p + most_places
 
@@ -131,7 +131,7 @@ BlockCase b m q core (Now.Count counted) core' = Blocked b m q core counted core
 BlockCase b m q core (Now.Broken at) core' = m ≡ breaks at
 
 abbrev pub CountCase : ℕ → Counted → Type 0
-CountCase counted (Now.Count counted') = (counted ≤ counted') × (counted' ≤ most_locals_lem)
+CountCase counted (Now.Count counted') = (counted ≤ counted') × (counted' ≤ most_locals)
 CountCase counted (Now.Broken at) = Unit {0}
 
 -- n statements at ws are whatever block has them

@@ -1,7 +1,7 @@
 // What an item of the tree becomes, by its kind: rules of document 01 §4 for names, operators and calls.
 ghost use Rattle.std.specs.Prelude.{◌≡◌, ℕ, ◌≤◌, eqb, ltb};
 ghost use Rattle.rules.specs.Tables.{type_of, locals_in, globals_in};
-ghost use Rattle.rules.specs.Scan.{leaf as leafOf, name_node, element_node, unary_node, strict_node, mark_node, join_node};
+ghost use Rattle.rules.specs.Scan.{leaf as leaf_of, name_node, element_node, unary_node, strict_node, mark_node, join_node};
 ghost use Rattle.rules.specs.Post.{made, Reads, most_entries, most_places};
 ghost use Rattle.std.proofs.Math.Option.{some, none};
 ghost use Rattle.word.specs.Choice.{pick};
@@ -84,7 +84,7 @@ pub fn broken() -> Made
 
 // A number, a truth or a local.
 pub fn leaf(ty: u32, here: u32, kind: u32, a: u32) -> Made
-    ensures { made result.ok result.takes result.ty result.start result.begins result.kind result.a result.b ≡ some (leafOf (type_of ty) here kind a) }
+    ensures { made result.ok result.takes result.ty result.start result.begins result.kind result.a result.b ≡ some (leaf_of (type_of ty) here kind a) }
 {
     Made {
         ok: true,

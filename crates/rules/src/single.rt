@@ -1,6 +1,6 @@
 // Statements with one expression and no block: the expression first, then the statement's own rules, then its header.
 ghost use Rattle.std.specs.Prelude.{◌≡◌, List, ℕ, ◌+◌, ◌*◌, ◌≤◌, length, drop};
-ghost use Rattle.language.specs.Tree.{emit as emit_of, give as giveOf, assign as assign_of, declare as declare_of};
+ghost use Rattle.language.specs.Tree.{emit as emit_of, give as give_of, assign as assign_of, declare as declare_of};
 ghost use Rattle.rules.specs.Tables.{part, type_of, result_of, locals_in, globals_in};
 ghost use Rattle.rules.specs.Post.{most_entries, HeaderRoom, States, Leaves, Enters, Freshly};
 ghost use Rattle.rules.specs.Statements.{Moves, declared_type};
@@ -59,7 +59,7 @@ pub fn give(
 ) -> Step
     requires { HeaderRoom tree.now spot.globals spot.visible types.old starts.old core.old spot.tree spot.core }
     ensures states { States text.now (globals_in text.now tree.now globals.now spot.globals) locals.now spot.visible spot.count (result_of spot.result)
-        (λ e. giveOf head.at e) head.first head.rest (drop (spot.tree + 8) tree.now) spot.core core.old result locals.now core.new }
+        (λ e. give_of head.at e) head.first head.rest (drop (spot.tree + 8) tree.now) spot.core core.old result locals.now core.new }
     ensures moves { Moves spot.visible spot.count locals.now result locals.now }
 {
     let r = first_expression(text, tree, globals, locals, types, starts, core, spot, head);

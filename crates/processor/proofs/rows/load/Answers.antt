@@ -1,5 +1,5 @@
 -- Each arm is the table's row with its number, and the last is none of them.
-use borrow.Author.Tests.{eq-eqb, ne_eqb}
+use borrow.Author.Tests.{ne_eqb}
 use Rattle.processor.specs.Instructions.{decode_load}
 use Rattle.processor.proofs.rows.load.Goals as goal
 

@@ -1,6 +1,6 @@
 -- The two ways are the two sides of the definition; a negative word is not 0, so that its negation does not wrap.
 use Rattle.word.specs.Word.{neg_w}
-use mathlib.Core.Path.{sym, ◌∙◌}
+use mathlib.Core.Path.{sym}
 use Rattle.word.proofs.Sign.{magnitude_positive, magnitude_negative}
 use native.Mathlib.Omega.{arith}
 use Rattle.word.proofs.order.magnitude.Goals as goal
