@@ -20,7 +20,7 @@ by_each() {
     }
 }
 
-# proved COMMAND..: runs a command of rt at the top of the repository, and shows what it said only where it failed.
+# proved COMMAND..: runs a command at the top of the repository, and shows what it said only where it failed.
 proved() {
     (cd "$root" && "$@") >"$built/proved.log" 2>&1 || {
         cat "$built/proved.log"
