@@ -67,7 +67,7 @@ def proofs_of(own, function):
 def opened(file, module, goal):
     """The goal's answer becomes a hole."""
     text = read(file) if file.exists() else f"use {module}.Goals as goal\n"
-    # in a cycle of calls a goal has the calls' theorems before what is known
+    # in a cycle of calls a goal has a number before what is known
     taken = re.search(rf"(?m)^{re.escape(goal)}((?: [\w'-]+)*) =", text)
     hole = f"pub {goal} : goal.{goal}\n{goal}{taken[1] if taken else ' t c' if file.parent.name.startswith('+') else ' c'} = ?\n"
     found, count = re.subn(ANSWER.format(re.escape(goal)), hole, text, count=1)
