@@ -4,10 +4,10 @@ top=$PWD passed=0 failed=0
 room=$(mktemp -d) || exit 2
 trap 'rm -rf "$room"' EXIT
 mkdir -p "$room/tools" "$room/crates/small/src" || exit 2
-cp "$top/tools/profile" "$room/tools/profile"
+cp -R "$top/tools/profile" "$top/tools/proving" "$room/tools"
 cd "$room" || exit 2
 echo 'small:' >crates.txt
-printf 'pub fn half(a: u32) -> u32 {\n    a / 2\n}\n' >crates/small/src/lib.rt
+printf '#![tactic(auto)]\n\npub fn half(a: u32) -> u32 {\n    a / 2\n}\n' >crates/small/src/lib.rt
 
 # What the tool says has this line in it, and it ends with this status.
 expect() { # WHAT STATUS LINE COMMAND...
@@ -23,7 +23,7 @@ expect() { # WHAT STATUS LINE COMMAND...
     fi
 }
 
-expect "a function and its seconds" 0 '^ *[0-9.]* *[0-9.]*  proofs.proofs.half$' tools/profile small
+expect "a function and its seconds" 0 '^ *[0-9.]* *[0-9.]*  proofs.half$' tools/profile small
 expect "a crate that there is not" 1 'did not run' tools/profile none
 echo "$passed passed, $failed failed"
 [ "$failed" -eq 0 ]

@@ -66,8 +66,10 @@ def proofs_of(own, function):
 
 def opened(file, module, goal):
     """The goal's answer becomes a hole."""
-    hole = f"pub {goal} : goal.{goal}\n{goal} c = ?\n"
     text = read(file) if file.exists() else f"use {module}.Goals as goal\n"
+    # in a cycle of calls a goal has a number before what is known
+    taken = re.search(rf"(?m)^{re.escape(goal)}((?: [\w'-]+)*) =", text)
+    hole = f"pub {goal} : goal.{goal}\n{goal}{taken[1] if taken else ' t c' if file.parent.name.startswith('+') else ' c'} = ?\n"
     found, count = re.subn(ANSWER.format(re.escape(goal)), hole, text, count=1)
     write(file, found if count else text + "\n" + hole)
 
@@ -78,6 +80,8 @@ def paths(root, crate, own, function, goal):
     answers = folder / "Answers.antt"
     if goal is None:
         names = re.findall(r"(?m)^pub (\S+) : goal\.\1$", read(answers) if answers.exists() else "")
+        member = function.replace("/", "::").split("::")[-1] + "-" if folder.name.startswith("+") else ""
+        names = [name for name in names if name.startswith(member)]
         print("\n".join(names) or f"prove: {function} has no answers: tools/prove --new {crate} {function} begins them")
         return 0
     with tempfile.TemporaryDirectory() as room:
