@@ -159,12 +159,12 @@ gives s l n = record { status = s; log = l; steps = n }
 
 -- Steps and words. The plain stack machine of document 03 §5 takes 305 steps for G, 370 to 400 for Z, 3,160 for f(62).
 pub record Vectors : Type 0 where
-  pub G-runs : ends G [] ≡ gives Exit (6 ∷ 6 ∷ 5 ∷ []) 130
-  pub G-words : length (instructions_of G) ≡ 67
-  pub Z-quiet : ends Z (10 ∷ 20 ∷ 30 ∷ 69 ∷ []) ≡ gives Exit [] 168
-  pub Z-one : ends Z (10 ∷ 70 ∷ 30 ∷ 5 ∷ []) ≡ gives Exit (1 ∷ []) 168
-  pub Z-two : ends Z (99 ∷ 20 ∷ 4294967295 ∷ 5 ∷ []) ≡ gives Exit (0 ∷ 2 ∷ 100 ∷ []) 176
-  pub Z-words : length (instructions_of Z) ≡ 91
+  pub g_runs : ends G [] ≡ gives Exit (6 ∷ 6 ∷ 5 ∷ []) 130
+  pub g_words : length (instructions_of G) ≡ 67
+  pub z_quiet : ends Z (10 ∷ 20 ∷ 30 ∷ 69 ∷ []) ≡ gives Exit [] 168
+  pub z_one : ends Z (10 ∷ 70 ∷ 30 ∷ 5 ∷ []) ≡ gives Exit (1 ∷ []) 168
+  pub z_two : ends Z (99 ∷ 20 ∷ 4294967295 ∷ 5 ∷ []) ≡ gives Exit (0 ∷ 2 ∷ 100 ∷ []) 176
+  pub z_words : length (instructions_of Z) ≡ 91
   pub f_62 : ends (down 62) [] ≡ gives Exit (62 ∷ []) 1016
   pub f_63 : ends (down 63) [] ≡ gives (Trap 3) [] 582
   pub f_words : length (instructions_of (down 62)) ≡ 51
@@ -173,12 +173,12 @@ pub record Vectors : Type 0 where
 
 pub vectors : Vectors
 unfolding answering instructions_of counts entry_from functions_from function function_by near_in clears statement block code codes condition place_of places_of passes saves loads short upper_of lower_of run step ecall_of alu_of cond_of reaches apply add_w sub_w mul_w neg_w negative magnitude lt_s lt_u quot_s rem_s bit_of shl_w sign_extend
-vectors = record { G-runs = refl; G-words = refl; Z-quiet = refl; Z-one = refl; Z-two = refl; Z-words = refl; f_62 = refl; f_63 = refl; f_words = refl; order_runs = refl; constants_run = refl }
+vectors = record { g_runs = refl; g_words = refl; z_quiet = refl; z_one = refl; z_two = refl; z_words = refl; f_62 = refl; f_63 = refl; f_words = refl; order_runs = refl; constants_run = refl }
 
 -- The words of two images. Document 03's test program runs them too, from their bytes.
 
-abbrev G-words : List ℕ
-G-words =
+abbrev g_words : List ℕ
+g_words =
     0x00110137 ∷ 0x0012f1b7 ∷ 0x00100893 ∷ 0x08c000ef ∷ 0x00000893 ∷ 0x00000073 ∷ 0x00100513 ∷ 0x00200893 ∷ 0x00000073 ∷ 0x00200513 ∷
     0x00200893 ∷ 0x00000073 ∷ 0x00300513 ∷ 0x00200893 ∷ 0x00000073 ∷ 0x00311463 ∷ 0xff1ff0ef ∷ 0x00112023 ∷ 0x00012623 ∷ 0x00812203 ∷
     0x02020863 ∷ 0x00412203 ∷ 0x00812283 ∷ 0x00029463 ∷ 0xfb9ff0ef ∷ 0x02526cb3 ∷ 0x01912623 ∷ 0x00812203 ∷ 0x00412223 ∷ 0x00c12203 ∷
@@ -199,9 +199,9 @@ f_words =
     []
 
 pub record Images : Type 0 where
-  pub G-image : words_from 0 (instructions_of G) ≡ G-words
+  pub g_image : words_from 0 (instructions_of G) ≡ g_words
   pub f_image : words_from 0 (instructions_of (down 62)) ≡ f_words
 
 pub images : Images
 unfolding words_from distance encode_of r_word i_word s_word b_word u_word j_word answering instructions_of entry_from functions_from function function_by near_in clears statement block code codes condition place_of places_of passes saves loads short upper_of lower_of apply neg_w sign_extend
-images = record { G-image = refl; f_image = refl }
+images = record { g_image = refl; f_image = refl }

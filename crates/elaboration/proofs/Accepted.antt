@@ -1,9 +1,9 @@
 -- The front page: what an accepted program owes the compiler's theorem and the interpreter's flat form, and what it never reads.
 --   accepted : the program of an accepted text is proper for code generation, and fits the flat form
---   accepted-light : it has no more weight than the text has bytes
---   accepted-settled : on every path it writes a local before it reads it, and reads the values of functions that give one
---   accepted-returns : its functions with a result type give a value on every path
---   accepted-unseen : its run is the same whatever its lets start at, and whatever stands for a value that a function did not give
+--   accepted_light : it has no more weight than the text has bytes
+--   accepted_settled : on every path it writes a local before it reads it, and reads the values of functions that give one
+--   accepted_returns : its functions with a result type give a value on every path
+--   accepted_unseen : its run is the same whatever its lets start at, and whatever stands for a value that a function did not give
 use mathlib.Core.List.{List}
 use mathlib.Core.Path.{◌≡◌}
 use Prim.Native.Nat.{ℕ, ◌≤◌, ◌<◌}

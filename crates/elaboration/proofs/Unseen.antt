@@ -1,5 +1,5 @@
 -- The run of a settled program is the same whatever its lets start at, and whatever stands for a value that a function did not give.
---   gives-returns : a body that gives a value on every path does not come to its end without one
+--   gives_returns : a body that gives a value on every path does not come to its end without one
 --   unseen        : the two runs are equal; by induction on the activations that are left, then on syntax
 use Prim.Native.Nat.{ℕ, zero, suc, ◌<◌}
 use mathlib.Core.Bool.{Bool, true, false, true≢false}

@@ -1,7 +1,7 @@
 -- The front page: what words of a program decode to, and that their run is the program's.
 --   decoded         : function f of the words is the flat form of the program's function f
---   flat-run        : the words run as the program does, with the same outcome, fuel, log and arrays
---   flat-run-before : and so they do where other words follow
+--   flat_run_lem    : the words run as the program does, with the same outcome, fuel, log and arrays
+--   flat_run_before : and so they do where other words follow
 use mathlib.Core.Path.{◌≡◌, refl, sym, ap, ◌∙◌}
 use mathlib.Core.List.{List, [], ◌∷◌, ◌++◌}
 use mathlib.Core.Bool.{Bool, true, false}

@@ -1,7 +1,7 @@
 -- The front page: what a run of a program's words is.
---   run-outcome : outcome, fuel, log and arrays are those of document 01 §5
---   run-log     : the log's buffer is that log, and then what stood there before
---   run-logged  : so many words were logged
+--   run_outcome : outcome, fuel, log and arrays are those of document 01 §5
+--   run_log     : the log's buffer is that log, and then what stood there before
+--   run_logged  : so many words were logged
 use mathlib.Core.Path.{◌≡◌, refl, sym, ap, ◌∙◌}
 use mathlib.Core.List.{List, [], ◌++◌}
 use Prim.Native.Nat.{ℕ, ◌≤◌}

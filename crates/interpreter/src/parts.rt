@@ -2,7 +2,7 @@
 ghost use Rattle.std.specs.Prelude.{◌≡◌, ℕ, ◌+◌, ◌*◌, ◌-◌, ◌<◌, drop};
 ghost use Rattle.language.specs.Meaning.{branch};
 ghost use Rattle.flat.specs.Items.{item as charged};
-ghost use Rattle.flat.specs.Words.{item_of, kind_of, items_of, words_per_item, header_words, rest_words, first_end as first_end, first as first_of, second as second_of, block_of};
+ghost use Rattle.flat.specs.Words.{item_of, kind_of, items_of, words_per_item, header_words, rest_words, first_end, first as first_of, second as second_of, block_of};
 ghost use Rattle.interpreter.specs.Post.{first_block, second_block};
 
 use crate::Span;

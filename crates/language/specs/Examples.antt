@@ -133,9 +133,9 @@ down =
 -- The vectors
 
 pub record Vectors : Type 0 where
-  pub G-runs : runs (elaborate G 0) [] ≡ ends finished (6 ∷ 6 ∷ 5 ∷ []) [] 97
+  pub g_runs : runs (elaborate G 0) [] ≡ ends finished (6 ∷ 6 ∷ 5 ∷ []) [] 97
   -- the core program of text G
-  pub G-core : elaborate G 0 ≡ keeps (record {
+  pub g_core : elaborate G 0 ≡ keeps (record {
     functions =
         record {
           parameters = 2;
@@ -158,9 +158,9 @@ pub record Vectors : Type 0 where
     main = 1;
     elements = 0;
   })
-  pub Z-quiet : runs (elaborate Z 0) (10 ∷ 20 ∷ 30 ∷ 69 ∷ 0 ∷ 0 ∷ []) ≡ ends finished [] (10 ∷ 20 ∷ 30 ∷ 69 ∷ 0 ∷ 0 ∷ []) 96
-  pub Z-one : runs (elaborate Z 0) (10 ∷ 70 ∷ 30 ∷ 5 ∷ 0 ∷ 0 ∷ []) ≡ ends finished (1 ∷ []) (10 ∷ 70 ∷ 30 ∷ 5 ∷ 1 ∷ 0 ∷ []) 101
-  pub Z-two : runs (elaborate Z 0) (99 ∷ 20 ∷ -1 ∷ 5 ∷ 0 ∷ 0 ∷ []) ≡ ends finished (0 ∷ 2 ∷ 100 ∷ []) (99 ∷ 20 ∷ -1 ∷ 5 ∷ 1 ∷ 1 ∷ []) 108
+  pub z_quiet : runs (elaborate Z 0) (10 ∷ 20 ∷ 30 ∷ 69 ∷ 0 ∷ 0 ∷ []) ≡ ends finished [] (10 ∷ 20 ∷ 30 ∷ 69 ∷ 0 ∷ 0 ∷ []) 96
+  pub z_one : runs (elaborate Z 0) (10 ∷ 70 ∷ 30 ∷ 5 ∷ 0 ∷ 0 ∷ []) ≡ ends finished (1 ∷ []) (10 ∷ 70 ∷ 30 ∷ 5 ∷ 1 ∷ 0 ∷ []) 101
+  pub z_two : runs (elaborate Z 0) (99 ∷ 20 ∷ -1 ∷ 5 ∷ 0 ∷ 0 ∷ []) ≡ ends finished (0 ∷ 2 ∷ 100 ∷ []) (99 ∷ 20 ∷ -1 ∷ 5 ∷ 1 ∷ 1 ∷ []) 108
   pub row_nothing : runs (elaborate (main [] ∷ []) 0) [] ≡ ends finished [] [] 0
   pub row_emit : runs (elaborate (main (emits (number 1 ∷ [])) ∷ []) 0) [] ≡ ends finished (1 ∷ []) [] 2
   pub row_trap_1 : runs (elaborate (main (emits (number 1 ∷ (number 7 ⟨ div ⟩ (number 3 ⟨ sub ⟩ number 3)) ∷ number 2 ∷ [])) ∷ []) 0) []
@@ -210,4 +210,4 @@ pub record Vectors : Type 0 where
 
 pub vectors : Vectors
 unfolding bytes ◌>>=◌ need found same global_of local_of array_of function_of declare_item declare_all main_of want changed joined combined indexed fit called known expr exprs fresh leaves gives stmt block_of parameters is_return ends_in_return function_from functions_from elaborate run_of bind begin apply operate read write fetch assign_slot rounds append eval evals exec block back call_at add_w sub_w mul_w neg_w negative magnitude lt_s quot_s rem_s bit_of
-vectors = record { G-runs = refl; G-core = refl; Z-quiet = refl; Z-one = refl; Z-two = refl; row_nothing = refl; row_emit = refl; row_trap_1 = refl; row_division = refl; row_wraps = refl; row_trap_2 = refl; row_order = refl; row_index_last = refl; row_62 = refl; row_63 = refl; row_endless = refl; no_main = refl; let_of_itself = refl; hiding = refl; ordered_truths = refl; falls_off = refl; falls_through = refl; no_index = refl; equal_truths = refl; minus_minus = refl }
+vectors = record { g_runs = refl; g_core = refl; z_quiet = refl; z_one = refl; z_two = refl; row_nothing = refl; row_emit = refl; row_trap_1 = refl; row_division = refl; row_wraps = refl; row_trap_2 = refl; row_order = refl; row_index_last = refl; row_62 = refl; row_63 = refl; row_endless = refl; no_main = refl; let_of_itself = refl; hiding = refl; ordered_truths = refl; falls_off = refl; falls_through = refl; no_index = refl; equal_truths = refl; minus_minus = refl }

@@ -1,5 +1,5 @@
 -- Document 01 §2: tokens. A text is a list of bytes.
--- First the tables and limits, then `Reads`, which says what a text reads as, and then `tokensOf`, a function that computes it.
+-- First the tables and limits, then `Reads`, which says what a text reads as, and then `tokens_of`, a function that computes it.
 use Rattle.std.specs.Prelude.{◌≡◌, refl, Bool, not, List, [], ◌∷◌, ◌++◌, ◌⊎◌, ℕ, zero, suc, ◌+◌, ◌*◌, ◌-◌, ◌≤◌, leb, eqb, length, drop}
 use Rattle.std.proofs.Math.Option.{Option, none, some}
 use Prim.Native.Char.{Char, code}

@@ -123,8 +123,8 @@ module _ {text : List ℕ} {gs : List Global} {result : Option Ty} {tree : List 
   abbrev Whole : Counted → List ℕ → List ℕ → Type 0
   Whole r locals' core' = Blocks text gs locals₀ l₀ count₀ result n (drop p tree) q core₀ r locals' core'
 
-  abbrev Now-left : T.Block → T.Block → Type 0
-  Now-left b = Rest text gs result locals₀ l₀ count₀ q core₀ b to l count locals core
+  abbrev NowLeft : T.Block → T.Block → Type 0
+  NowLeft b = Rest text gs result locals₀ l₀ count₀ q core₀ b to l count locals core
 
   pub block_ends : n ≤ i → Whole (Now.Count count) locals core
   unfolding stmt flats F.block_words
@@ -135,7 +135,7 @@ module _ {text : List ℕ} {gs : List Global} {result : Option Ty} {tree : List 
 
   module _ (h : i < n) where
     abbrev Stands : T.Block → List ℕ → Type 0
-    Stands b more = Next tree n more i at (Now-left b)
+    Stands b more = Next tree n more i at (NowLeft b)
 
     stands : (b : T.Block) (more : List ℕ) → drop p tree ≡ G.block_words b more → n ≡ G.count b → NamedBlock text b → Stands b more
     stands b more ew en nm = next h (c.left b more ew en nm)

@@ -218,53 +218,53 @@ module _ (text tree : List ℕ) (gs : List Global) (p a : ℕ) (ok : Bool) (h v 
 -- Which kind it is
 
 module _ (text : List ℕ) (globals : List Global) (locals : List Local) (p a b here : ℕ) (os : List Operand) where
-  abbrev Node-at : ℕ → Option Node → Type 0
-  Node-at k w = w ≡ node_of text globals locals k p a b here os
+  abbrev NodeAt : ℕ → Option Node → Type 0
+  NodeAt k w = w ≡ node_of text globals locals k p a b here os
 
-  at_kind : (i : ℕ) {k : ℕ} {w : Option Node} → k ≡ i → Node-at i w → Node-at k w
+  at_kind : (i : ℕ) {k : ℕ} {w : Option Node} → k ≡ i → NodeAt i w → NodeAt k w
   at_kind i e h = h ∙ ap (λ (j : ℕ). node_of text globals locals j p a b here os) (sym e)
 
-  pub a_number : {k : ℕ} {w : Option Node} → k ≡ 0 → w ≡ some (leaf (type_of 1) here 0 a) → Node-at k w
+  pub a_number : {k : ℕ} {w : Option Node} → k ≡ 0 → w ≡ some (leaf (type_of 1) here 0 a) → NodeAt k w
   unfolding node_of type_of
   a_number e q = at_kind 0 e q
 
-  pub a_name : {k : ℕ} {w : Option Node} → k ≡ 1 → w ≡ name_node text locals p a here → Node-at k w
+  pub a_name : {k : ℕ} {w : Option Node} → k ≡ 1 → w ≡ name_node text locals p a here → NodeAt k w
   unfolding node_of
   a_name e q = at_kind 1 e q
 
-  pub an_element : {k : ℕ} {w : Option Node} {o : Operand} → k ≡ 2 → get_or os 0 no_operand ≡ o → w ≡ element_node text globals p a o → Node-at k w
+  pub an_element : {k : ℕ} {w : Option Node} {o : Operand} → k ≡ 2 → get_or os 0 no_operand ≡ o → w ≡ element_node text globals p a o → NodeAt k w
   unfolding node_of
   an_element e t q = at_kind 2 e (q ∙ ap (element_node text globals p a) (sym t))
 
-  pub a_call : {k : ℕ} {w : Option Node} → k ≡ 3 → w ≡ called_node text globals p a b here os → Node-at k w
+  pub a_call : {k : ℕ} {w : Option Node} → k ≡ 3 → w ≡ called_node text globals p a b here os → NodeAt k w
   unfolding node_of
   a_call e q = at_kind 3 e q
 
-  pub a_unary : {k : ℕ} {w : Option Node} {o : Operand} → k ≡ 4 → get_or os 0 no_operand ≡ o → w ≡ unary_node a o → Node-at k w
+  pub a_unary : {k : ℕ} {w : Option Node} {o : Operand} → k ≡ 4 → get_or os 0 no_operand ≡ o → w ≡ unary_node a o → NodeAt k w
   unfolding node_of
   a_unary e t q = at_kind 4 e (q ∙ ap (unary_node a) (sym t))
 
-  pub a_strict : {k : ℕ} {w : Option Node} {x y : Operand} → k ≡ 5 → get_or os 0 no_operand ≡ y → get_or os 1 no_operand ≡ x → w ≡ strict_node a x y → Node-at k w
+  pub a_strict : {k : ℕ} {w : Option Node} {x y : Operand} → k ≡ 5 → get_or os 0 no_operand ≡ y → get_or os 1 no_operand ≡ x → w ≡ strict_node a x y → NodeAt k w
   unfolding node_of
   a_strict e t u q = at_kind 5 e (q ∙ rw (t, u) refl)
 
-  pub an_and : {k : ℕ} {w : Option Node} {o : Operand} → k ≡ 6 → get_or os 0 no_operand ≡ o → w ≡ some (mark_node 6 a o) → Node-at k w
+  pub an_and : {k : ℕ} {w : Option Node} {o : Operand} → k ≡ 6 → get_or os 0 no_operand ≡ o → w ≡ some (mark_node 6 a o) → NodeAt k w
   unfolding node_of
   an_and e t q = at_kind 6 e (q ∙ ap (λ (o : Operand). some (mark_node 6 a o)) (sym t))
 
-  pub an_or : {k : ℕ} {w : Option Node} {o : Operand} → k ≡ 7 → get_or os 0 no_operand ≡ o → w ≡ some (mark_node 7 a o) → Node-at k w
+  pub an_or : {k : ℕ} {w : Option Node} {o : Operand} → k ≡ 7 → get_or os 0 no_operand ≡ o → w ≡ some (mark_node 7 a o) → NodeAt k w
   unfolding node_of
   an_or e t q = at_kind 7 e (q ∙ ap (λ (o : Operand). some (mark_node 7 a o)) (sym t))
 
-  pub a_join : {k : ℕ} {w : Option Node} {x y : Operand} → k ≡ 8 → get_or os 0 no_operand ≡ y → get_or os 1 no_operand ≡ x → w ≡ join_node x y → Node-at k w
+  pub a_join : {k : ℕ} {w : Option Node} {x y : Operand} → k ≡ 8 → get_or os 0 no_operand ≡ y → get_or os 1 no_operand ≡ x → w ≡ join_node x y → NodeAt k w
   unfolding node_of
   a_join e t u q = at_kind 8 e (q ∙ rw (t, u) refl)
 
-  pub a_truth : {k : ℕ} {w : Option Node} → k ≡ 9 → w ≡ some (leaf (type_of 2) here 0 a) → Node-at k w
+  pub a_truth : {k : ℕ} {w : Option Node} → k ≡ 9 → w ≡ some (leaf (type_of 2) here 0 a) → NodeAt k w
   unfolding node_of type_of
   a_truth e q = at_kind 9 e q
 
-  pub no_kind : {k : ℕ} {w : Option Node} → 10 ≤ k → w ≡ none → Node-at k w
+  pub no_kind : {k : ℕ} {w : Option Node} → 10 ≤ k → w ≡ none → NodeAt k w
   unfolding node_of
   no_kind l q = q ∙ sym (get_or-eq_default (nodes text globals locals p a b here os) none l)
 

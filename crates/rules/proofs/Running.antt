@@ -148,8 +148,8 @@ module _ (text : List ℕ) (gs : List Global) (locals : List ℕ) (l count : ℕ
     wrote : Wrote text gs (locals_in text locals l) (n - 1) ws (q + 8) core h ts ss core₁
     wrote = subst (λ (o : Out). ScanCase text gs (locals_in text locals l) (n - 1) ws (q + 8) core o ts ss core₁) d x.by
 
-    abbrev Args-held : T.Args → Type 0
-    Args-held xs = Held (args_of_here xs) (λ us. afters us nothing_scanned) (record { operands = operands_in ts ss h; words = wrote.words })
+    abbrev ArgsHeld : T.Args → Type 0
+    ArgsHeld xs = Held (args_of_here xs) (λ us. afters us nothing_scanned) (record { operands = operands_in ts ss h; words = wrote.words })
 
     -- how many there are stands in the call's item
     module _ (many : ℕ) (em : many ≡ get_or (drop (4 * (n - 1)) ws) 3 0) (ok : Bool) (takes ty start begins kind u v : ℕ) (z : made ok takes ty start begins kind u v ≡ dropped_node text gs at size many (operands_in ts ss h)) where
@@ -158,30 +158,30 @@ module _ (text : List ℕ) (gs : List Global) (locals : List ℕ) (l count : ℕ
       the_many xs more ew en = em ∙ (ap (λ (us : List ℕ). get_or (drop (4 * (n - 1)) us) 3 0) ew ∙ ap (λ (us : List ℕ). get_or us 3 0) (past_args xs (4 * (n - 1)) _ (omega (arith, en))))
 
       decided : {r : Step} {core' : List ℕ} →
-          ((xs : T.Args) (a : Args-held xs) → length a.value ≡ many → n ≡ G.sizes xs + 1 → rest ≡ 4 * G.sizes xs + 4 → StmtCase gs text (stmt_of_here xs) q core r locals core') → Said r core'
+          ((xs : T.Args) (a : ArgsHeld xs) → length a.value ≡ many → n ≡ G.sizes xs + 1 → rest ≡ 4 * G.sizes xs + 4 → StmtCase gs text (stmt_of_here xs) q core r locals core') → Said r core'
       decided {r} {core'} k = record {
         by = λ xs more ew en er nm.
             go xs more ew en er (held (args_of_here xs) (λ us. afters us nothing_scanned) _ (sym (scanned xs more ew en nm) ∙ wrote.is));
       }
         where
-          go : (xs : T.Args) (more : List ℕ) → ws ≡ G.run_words at (part text at size) xs more → n ≡ G.sizes xs + 1 → rest ≡ length (G.run_words at (part text at size) xs []) → Args-held xs → StmtCase gs text (stmt_of_here xs) q core r locals core'
+          go : (xs : T.Args) (more : List ℕ) → ws ≡ G.run_words at (part text at size) xs more → n ≡ G.sizes xs + 1 → rest ≡ length (G.run_words at (part text at size) xs []) → ArgsHeld xs → StmtCase gs text (stmt_of_here xs) q core r locals core'
           go xs more ew en er a = k xs a (((sized_all gs (locals_in text locals l) xs).holds a.value a.is).count ∙ sym (the_many xs more ew en)) en (er ∙ run_extent at (part text at size) xs)
 
-      the_node : (xs : T.Args) (a : Args-held xs) → dropped_node text gs at size many (afters a.value nothing_scanned).operands ≡ made ok takes ty start begins kind u v
+      the_node : (xs : T.Args) (a : ArgsHeld xs) → dropped_node text gs at size many (afters a.value nothing_scanned).operands ≡ made ok takes ty start begins kind u v
       the_node xs a = ap (λ (c : Scanned). dropped_node text gs at size many c.operands) a.gives ∙ sym z
 
-      wrong_at : (xs : T.Args) (a : Args-held xs) → length a.value ≡ many → ok ≡ false → stmt_of_here xs ≡ breaks at
+      wrong_at : (xs : T.Args) (a : ArgsHeld xs) → length a.value ≡ many → ok ≡ false → stmt_of_here xs ≡ breaks at
       unfolding stmt made
       wrong_at xs a c f = went _ a.is (own_wrong text gs at size _ a.value many c (the_node xs a ∙ ap (λ (w : Bool). made w takes ty start begins kind u v) f))
 
       pub run_wrong : {core' : List ℕ} → ok ≡ false → Said (To.Broken at) core'
       run_wrong f = decided (λ xs a c en er. wrong_at xs a c f)
 
-      the_call : (xs : T.Args) (a : Args-held xs) (c : length a.value ≡ many) → ok ≡ true → Gives text gs at size (scope_of gs text locals l count) a.value many c (record { takes = takes; type = type_of ty; start = start; begins = begins; kind = kind; a = u; b = v }) (own text gs at size (scope_of gs text locals l count) a.value many c)
+      the_call : (xs : T.Args) (a : ArgsHeld xs) (c : length a.value ≡ many) → ok ≡ true → Gives text gs at size (scope_of gs text locals l count) a.value many c (record { takes = takes; type = type_of ty; start = start; begins = begins; kind = kind; a = u; b = v }) (own text gs at size (scope_of gs text locals l count) a.value many c)
       unfolding made
       the_call xs a c f = own_fine text gs at size (scope_of gs text locals l count) a.value many c _ (the_node xs a ∙ ap (λ (w : Bool). made w takes ty start begins kind u v) f)
 
-      fine_at : (xs : T.Args) (a : Args-held xs) (c : length a.value ≡ many) {core' : List ℕ} → ok ≡ true → core' ≡ sets core q (7 ∷ 0 ∷ 0 ∷ n ∷ 0 ∷ 0 ∷ 0 ∷ rest ∷ items_words (codes (args_of a.value) u 0 0 []) []) →
+      fine_at : (xs : T.Args) (a : ArgsHeld xs) (c : length a.value ≡ many) {core' : List ℕ} → ok ≡ true → core' ≡ sets core q (7 ∷ 0 ∷ 0 ∷ n ∷ 0 ∷ 0 ∷ 0 ∷ rest ∷ items_words (codes (args_of a.value) u 0 0 []) []) →
           n ≡ length (codes (args_of a.value) u 0 0 []) → rest ≡ 4 * length (codes (args_of a.value) u 0 0 []) → Stated gs text (stmt_of_here xs) q core l count locals core'
       unfolding stmt flat stmt_words rest_length
       fine_at xs a c f e en er = record { value = C.run u (args_of a.value); is = went _ a.is (the_call xs a c f).0; there = e ∙ same n rest en er }
@@ -191,13 +191,13 @@ module _ (text : List ℕ) (gs : List Global) (locals : List ℕ) (l count : ℕ
               sets core q (7 ∷ 0 ∷ 0 ∷ length (codes (args_of a.value) u 0 0 []) ∷ 0 ∷ 0 ∷ 0 ∷ (4 * length (codes (args_of a.value) u 0 0 [])) ∷ items_words (codes (args_of a.value) u 0 0 []) [])
           same y w e f = rw (e, f) refl
 
-      items : (xs : T.Args) (a : Args-held xs) → n ≡ G.sizes xs + 1 → n ≡ length (codes (args_of a.value) u 0 0 [])
+      items : (xs : T.Args) (a : ArgsHeld xs) → n ≡ G.sizes xs + 1 → n ≡ length (codes (args_of a.value) u 0 0 [])
       items xs a en = en ∙ (sym ((sized_all gs (locals_in text locals l) xs).holds a.value a.is).same ∙ sym (codes_length (args_of a.value) u 0 0 [] ∙ omega arith))
 
-      the_words : (xs : T.Args) (a : Args-held xs) → length a.value ≡ many → wrote.words ++ (3 ∷ 0 ∷ u ∷ many ∷ []) ≡ items_words (codes (args_of a.value) u 0 0 []) []
+      the_words : (xs : T.Args) (a : ArgsHeld xs) → length a.value ≡ many → wrote.words ++ (3 ∷ 0 ∷ u ∷ many ∷ []) ≡ items_words (codes (args_of a.value) u 0 0 []) []
       the_words xs a c = ap (λ (w : List ℕ). w ++ (3 ∷ 0 ∷ u ∷ many ∷ [])) (sym (ap (λ (y : Scanned). y.words) a.gives) ∙ afters_words a.value nothing_scanned) ∙ sym (args_words_lem a.value u 0 many (omega (arith, c)))
 
-      there_at : (xs : T.Args) (a : Args-held xs) (c : length a.value ≡ many) {core₂ core₃ : List ℕ} → ok ≡ true → core₂ ≡ sets core₁ (q + 8 + 4 * (n - 1)) (kind ∷ 0 ∷ u ∷ v ∷ []) → core₃ ≡ sets core₂ q (7 ∷ 0 ∷ 0 ∷ n ∷ 0 ∷ 0 ∷ 0 ∷ rest ∷ []) →
+      there_at : (xs : T.Args) (a : ArgsHeld xs) (c : length a.value ≡ many) {core₂ core₃ : List ℕ} → ok ≡ true → core₂ ≡ sets core₁ (q + 8 + 4 * (n - 1)) (kind ∷ 0 ∷ u ∷ v ∷ []) → core₃ ≡ sets core₂ q (7 ∷ 0 ∷ 0 ∷ n ∷ 0 ∷ 0 ∷ 0 ∷ rest ∷ []) →
           core₃ ≡ sets core q (7 ∷ 0 ∷ 0 ∷ n ∷ 0 ∷ 0 ∷ 0 ∷ rest ∷ items_words (codes (args_of a.value) u 0 0 []) [])
       there_at xs a c f e₂ e₃ =
           two_rows core q (4 * (n - 1)) (7 ∷ 0 ∷ 0 ∷ n ∷ 0 ∷ 0 ∷ 0 ∷ rest ∷ []) wrote.words (3 ∷ 0 ∷ u ∷ many ∷ []) wrote.there

@@ -1,4 +1,4 @@
--- What a text reads as, `tokensOf` gives.
+-- What a text reads as, `tokens_of` gives.
 use mathlib.Core.Path.{◌≡◌, refl, sym, ap, subst, ◌∙◌}
 use mathlib.Core.Bool.{Bool, true, false, not}
 use mathlib.Core.List.{List, [], ◌∷◌, ◌++◌}

@@ -1,4 +1,4 @@
--- The front page: what is proved of document 01 §2. `tokens`, in src/lib.rt, computes `tokensOf`; here is that `tokensOf` is what
+-- The front page: what is proved of document 01 §2. `tokens`, in src/lib.rt, computes `tokens_of`; here is that `tokens_of` is what
 -- the relation says.
 use mathlib.Core.Path.{◌≡◌, sym, ◌∙◌}
 use mathlib.Core.Logic.{◌↔◌}

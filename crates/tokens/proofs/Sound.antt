@@ -1,4 +1,4 @@
--- What `tokensOf` gives, the text reads as.
+-- What `tokens_of` gives, the text reads as.
 use mathlib.Core.Path.{◌≡◌, refl, sym, ap, subst, ◌∙◌}
 use mathlib.Core.Bool.{Bool, true, false, not}
 use mathlib.Core.List.{List, [], ◌∷◌, ◌++◌}

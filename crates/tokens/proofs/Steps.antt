@@ -1,4 +1,4 @@
--- `readFrom` step by step: a blank, a comment, a token, a fault.
+-- `read_from` step by step: a blank, a comment, a token, a fault.
 use mathlib.Core.Path.{◌≡◌, refl, ap, ◌∙◌}
 use mathlib.Core.Bool.{true, false}
 use mathlib.Core.List.{List, [], ◌∷◌}

@@ -1,6 +1,6 @@
 -- A block's words put one after the other into a buffer: the first i of them, and then what was there.
 use Prim.Native.Nat.{ℕ, suc, ◌+◌, ◌*◌, ◌<◌}
-use mathlib.Core.Path.{◌≡◌, refl, sym, ap, ◌∙◌}
+use mathlib.Core.Path.{◌≡◌, sym, ap, ◌∙◌}
 use mathlib.Core.List.{List, ◌++◌, append-nil}
 use native.Mathlib.Omega.{arith}
 use lib.ListN.{length, get_or, set, take, drop}

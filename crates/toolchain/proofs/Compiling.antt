@@ -1,13 +1,11 @@
 -- What the compiler's answer on a text's program is as `compile`'s.
-use Prim.Native.Nat.{ℕ, suc, ◌+◌, ◌*◌, ◌-◌, ◌≤◌, ◌<◌}
-use mathlib.Core.Logic.{◌⊎◌}
-use mathlib.Core.Path.{◌≡◌, refl, sym, ap, ◌∙◌}
-use mathlib.Core.List.{List, [], ◌∷◌, ◌++◌}
+use Prim.Native.Nat.{ℕ, ◌+◌, ◌*◌, ◌≤◌}
+use mathlib.Core.Path.{◌≡◌, sym, ap, ◌∙◌}
+use mathlib.Core.List.{List, []}
 use native.Mathlib.Omega.{arith}
 use lib.ListN.{length, get_or, take, drop, length-drop, length-append}
 use lib.Seq.{take_at}
-use Rattle.language.specs.Core.{Function, Program}
-use Rattle.processor.specs.Image.{longest_code}
+use Rattle.language.specs.Core.{Program}
 use Rattle.flat.specs.Words.{words_of, words_then, bodies, entry}
 use Rattle.flat.proofs.Run.{entries_long}
 use Rattle.codegen.specs.Image.{image}

@@ -1,20 +1,20 @@
--- The end_to_end theorem: an image that `compile` made, run by `emulate` on a block of one word for each element, does what `interpret` says of the text.
+-- The end-to-end theorem: an image that `compile` made, run by `emulate` on a block of one word for each element, does what `interpret` says of the text.
 -- The idea: a text has one program, so that all three entries speak of the same one; each contract says that its buffers hold a run of the definitions, and between
 -- those runs `Keeps` stands.
-use Prim.Native.Nat.{ℕ, zero, suc, ◌+◌, ◌-◌, ◌*◌, ◌/◌, ◌%◌, ◌^◌, ◌≤◌, ◌<◌}
+use Prim.Native.Nat.{ℕ, zero, suc, ◌+◌, ◌-◌, ◌*◌, ◌^◌, ◌≤◌, ◌<◌}
 use mathlib.Core.Logic.{◌⊎◌}
-use mathlib.Core.Option.{Option, some}
-use mathlib.Core.Path.{◌≡◌, refl, sym, ap, ◌∙◌, subst}
+use mathlib.Core.Option.{some}
+use mathlib.Core.Path.{◌≡◌, sym, ap, ◌∙◌, subst}
 use mathlib.Core.List.{List, [], ◌∷◌, ◌++◌}
 use native.Mathlib.Omega.{arith}
 use lib.ListN.{length, get_or, take, drop, length-drop}
 use lib.Seq.{take-append-le, drop-append-le, length-take-le}
-use Rattle.word.specs.Bytes.{word_of, bytes_of_words, words_of_bytes}
+use Rattle.word.specs.Bytes.{bytes_of_words, words_of_bytes}
 use Rattle.word.proofs.WordBytes.{word_of_lt, bytes_words_bytes, words_of_bytes_length}
 use Rattle.language.specs.Tree.{Item}
 use Rattle.language.specs.Rules.{Ruled, keeps, elaborate}
 use Rattle.language.specs.Core.{Program}
-use Rattle.language.specs.Meaning.{Run, Outcome, run_of, stopped, out_of_fuel}
+use Rattle.language.specs.Meaning.{run_of}
 use Rattle.language.specs.Text.{Accepted}
 use Rattle.grammar.proofs.Main.{tree_one}
 use Rattle.processor.specs.declared.Status.{Status}
@@ -25,7 +25,6 @@ use Rattle.processor.specs.Image.{run_image, arrays_of, longest_code, longest_in
 use Rattle.processor.proofs.Kept.{After}
 use Rattle.processor.proofs.Laws.{run_keeps}
 use Rattle.processor.proofs.Start.{start_length}
-use Rattle.interpreter.specs.declared.Ran as I
 use Rattle.interpreter.specs.declared.Outcome.TheVariants.{OutOfFuel}
 use Rattle.interpreter.specs.Post.{outcome_of}
 use Rattle.claims.specs.Keeps.{stop_for, Begins, Below, Input, machine, used}

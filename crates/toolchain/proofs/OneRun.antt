@@ -6,8 +6,8 @@ use mathlib.Core.List.{List, ◌++◌}
 use lib.ListN.{length, take, drop, length-replicate}
 use lib.Seq.{take_at}
 use Rattle.processor.specs.declared.Status.{Status}
-use Rattle.processor.specs.Machine.{Machine, state, memory_bytes, register_count, zeros, start_of, start_memory}
-use Rattle.processor.specs.Run.{Run, run_of, onward}
+use Rattle.processor.specs.Machine.{state, memory_bytes, register_count, zeros, start_of}
+use Rattle.processor.specs.Run.{Run, onward}
 use Rattle.processor.specs.Image.{longest_code, longest_input, run_image}
 use Rattle.processor.proofs.Kept.{After}
 use Rattle.processor.proofs.Laws.{run_keeps, run_add}

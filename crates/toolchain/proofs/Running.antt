@@ -1,18 +1,16 @@
 -- What the run of a program's words on a block is, by the tests that come before it.
 use Prim.Native.Nat.{ℕ, ◌*◌, ◌≤◌, ◌<◌}
-use mathlib.Core.Logic.{◌⊎◌, inl, inr}
+use mathlib.Core.Logic.{inl, inr}
 use mathlib.Core.Path.{◌≡◌, refl, sym, ap, ◌∙◌, subst}
-use mathlib.Core.List.{List, [], ◌∷◌, ◌++◌}
+use mathlib.Core.List.{List, ◌++◌}
 use native.Mathlib.Omega.{arith}
 use lib.ListN.{length, drop}
 use Rattle.word.specs.Bytes.{words_of_bytes}
-use Rattle.language.specs.Core.{Program}
 use Rattle.language.specs.Meaning.{Run, run_of}
 use Rattle.interpreter.specs.declared.Ran.{Ran}
 use Rattle.interpreter.specs.Post.{world, outcome_of, Runs}
 use Rattle.interpreter.proofs.Whole.{run_outcome, run_log, run_logged}
 use Rattle.elaboration.proofs.Accepted.{accepted}
-use Rattle.toolchain.specs.Checking.{Work, Enough}
 use Rattle.toolchain.specs.Interpretation.{Lent, lent, IsBlock, Interprets, Holds, no_block, no_room}
 use Rattle.toolchain.specs.Accepting.{Made, RunsWords, elements_of}
 use Rattle.toolchain.specs.declared.interpret.Interpreted.TheVariants as I

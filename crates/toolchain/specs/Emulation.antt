@@ -1,7 +1,7 @@
 -- Claims 1 and 2 of the emulator: what `emulate` and `resume` answer, and what they leave in the lent buffers, whatever they are given.
-use Rattle.std.specs.Prelude.{ℕ, ◌-◌, ◌^◌, ◌≡◌, List, ◌++◌, ltb, leb, eqb, length, take, drop}
+use Rattle.std.specs.Prelude.{ℕ, ◌-◌, ◌^◌, ◌≡◌, List, ◌++◌, leb, eqb, length, take, drop}
 use Rattle.word.specs.Choice.{pick}
-use Rattle.processor.specs.Machine.{Machine, state, register_count, memory_bytes}
+use Rattle.processor.specs.Machine.{state, register_count, memory_bytes}
 use Rattle.processor.specs.Run.{Run, onward}
 use Rattle.processor.specs.Image.{Lent, accepted, answer_of, run_image}
 use Rattle.emulator.specs.declared.run.Ended.{Ended}

@@ -43,14 +43,14 @@ module _ (program : Program) (input : List ℕ) (fuel room : ℕ) (row : Row) wh
   Stops stop = (limit : ℕ) → paid row.used ≤ limit → Shows stop limit × ((panel program input room limit).steps ≤ paid row.used)
 
   -- it is still running after some number of steps, which the fuel bounds both ways; up to 65,536 units of fuel, the lower bound allows 0 steps
-  abbrev pub Goes_on : Type 0
-  Goes_on = (limit : ℕ) × (fuel ≤ C * limit + C0) × (limit ≤ paid fuel) × Shows Limit limit
+  abbrev pub GoesOn : Type 0
+  GoesOn = (limit : ℕ) × (fuel ≤ C * limit + C0) × (limit ≤ paid fuel) × Shows Limit limit
 
   -- exit where the run finishes, trap t where it traps with t
   abbrev pub Panel : Outcome → Type 0
   Panel finished = Stops Exit
   Panel (stopped (trapped t)) = Stops (Trap t)
-  Panel (stopped out_of_fuel) = Goes_on
+  Panel (stopped out_of_fuel) = GoesOn
 
 -- On these arrays, with this fuel and room for the log, the text does what the row says, by both documents.
 pub record Does (arrays : List ℕ) (fuel room : ℕ) (row : Row) (text : List ℕ) : Type 0 where

@@ -72,14 +72,14 @@ Runs text arrays outcome log after used = Does arrays 1000 10 (record { outcome 
 
 pub record Vectors : Type 0 where
   -- "Text G (one line per line, each ending in a line feed, 164 bytes)" "finishes with log 6, 6, 5; fuel 97."
-  pub G-bytes : length G ≡ 164
-  pub G-runs : Runs G [] finished (6 ∷ 6 ∷ 5 ∷ []) [] 97
+  pub g_bytes : length G ≡ 164
+  pub g_runs : Runs G [] finished (6 ∷ 6 ∷ 5 ∷ []) [] 97
   -- "Text Z", "| smoke | log | door | fuel |": "| 10 20 30 69 | empty | 0 0 | 96 |"
-  pub Z-quiet : Runs Z (10 ∷ 20 ∷ 30 ∷ 69 ∷ 0 ∷ 0 ∷ []) finished [] (10 ∷ 20 ∷ 30 ∷ 69 ∷ 0 ∷ 0 ∷ []) 96
+  pub z_quiet : Runs Z (10 ∷ 20 ∷ 30 ∷ 69 ∷ 0 ∷ 0 ∷ []) finished [] (10 ∷ 20 ∷ 30 ∷ 69 ∷ 0 ∷ 0 ∷ []) 96
   -- "| 10 70 30 5 | 1 | 1 0 | 101 |"
-  pub Z-one : Runs Z (10 ∷ 70 ∷ 30 ∷ 5 ∷ 0 ∷ 0 ∷ []) finished (1 ∷ []) (10 ∷ 70 ∷ 30 ∷ 5 ∷ 1 ∷ 0 ∷ []) 101
+  pub z_one : Runs Z (10 ∷ 70 ∷ 30 ∷ 5 ∷ 0 ∷ 0 ∷ []) finished (1 ∷ []) (10 ∷ 70 ∷ 30 ∷ 5 ∷ 1 ∷ 0 ∷ []) 101
   -- "| 99 20 -1 5 | 0, 2, 100 | 1 1 | 108 |": the panel's processor, too, exits with log 0, 2, 100 and 1 at both doors
-  pub Z-two : Runs Z (99 ∷ 20 ∷ minus 1 ∷ 5 ∷ 0 ∷ 0 ∷ []) finished (0 ∷ 2 ∷ 100 ∷ []) (99 ∷ 20 ∷ minus 1 ∷ 5 ∷ 1 ∷ 1 ∷ []) 108
+  pub z_two : Runs Z (99 ∷ 20 ∷ minus 1 ∷ 5 ∷ 0 ∷ 0 ∷ []) finished (0 ∷ 2 ∷ 100 ∷ []) (99 ∷ 20 ∷ minus 1 ∷ 5 ∷ 1 ∷ 1 ∷ []) 108
   -- "| body of main (helpers in brackets) | outcome | log | fuel |": "| nothing | finished | | 0 |"
   pub row_nothing : Runs (main "") [] finished [] [] 0
   pub row_emit : Runs (main "emit 1;") [] finished (1 ∷ []) [] 2
@@ -96,7 +96,7 @@ pub record Vectors : Type 0 where
   pub row_63 : Runs (with "fn f(n: int): int { if n == 0 { return 0; } else { return 1 + f(n - 1); } }" "emit f(63);") [] (trap 3) [] [] 696
   -- "`while true { }` with fuel 1,000"
   pub row_endless : Runs (main "while true { }") [] (stopped out_of_fuel) [] [] 1000
-  -- and on the panel's processor it never stops: `Goes_on` bounds the steps from below only past 65,536 units of fuel
+  -- and on the panel's processor it never stops: `GoesOn` bounds the steps from below only past 65,536 units of fuel
   pub row_endless_panel : NeverStops (main "while true { }")
   -- "Answer 1: `emit 2147483648;`, `emit 01;`, `emit 12a;`, a 33-character name, `if 1 < 2 < 3 { }`, 32 nested parentheses in main (31 are fine), `fn Main() { }`."
   pub too_large : Unreadable (main "emit 2147483648;")

@@ -1,4 +1,4 @@
--- Every operation on words gives a word: `fW-lt` says that the result of `fW` is below 2 ^ 32. Each asks of its operands only what it needs.
+-- Every operation on words gives a word: `f_w_lt` says that the result of `f_w` is below 2 ^ 32. Each asks of its operands only what it needs.
 use Prim.Native.Nat.{ℕ, ◌+◌, ◌-◌, ◌*◌, ◌/◌, ◌%◌, ◌^◌, ◌<◌, ◌≤◌}
 use mathlib.Core.Path.{subst}
 use mathlib.Core.Bool.{Bool, true, false}

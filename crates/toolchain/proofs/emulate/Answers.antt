@@ -4,7 +4,7 @@ use Rattle.toolchain.proofs.Held.{held}
 use Rattle.toolchain.specs.Emulation.{Emulates, sizes, buffers}
 use lib.ListN.{length}
 use lib.Seq.{length-take-le}
-use mathlib.Core.Path.{◌≡◌, refl, sym, ◌∙◌, ap}
+use mathlib.Core.Path.{refl, sym, ◌∙◌}
 use native.Mathlib.Omega.{arith}
 use Rattle.toolchain.proofs.emulate.Goals as goal
 

@@ -2,7 +2,7 @@
 use Rattle.toolchain.proofs.Held.{held, gone_on}
 use Rattle.toolchain.specs.Emulation.{buffers}
 use lib.Seq.{length-take-le}
-use mathlib.Core.Path.{◌≡◌, refl, sym, ◌∙◌, ap}
+use mathlib.Core.Path.{sym, ◌∙◌}
 use native.Mathlib.Omega.{arith}
 use Rattle.toolchain.proofs.go_on.Goals as goal
 

@@ -4,8 +4,7 @@ use Rattle.toolchain.proofs.Held.{unchanged}
 use Rattle.processor.specs.declared.Status.{Status}
 use Rattle.processor.specs.Run.{resumed}
 use Rattle.toolchain.specs.Emulation.{Resumes, sizes, buffers, stood, steps_more}
-use mathlib.Core.Path.{◌≡◌, refl, sym, ◌∙◌, ap}
-use lib.ListN.{length}
+use mathlib.Core.Path.{refl, sym, ◌∙◌, ap}
 use native.Mathlib.Omega.{arith}
 use Rattle.toolchain.proofs.resume.Goals as goal
 

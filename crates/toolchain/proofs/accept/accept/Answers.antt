@@ -1,6 +1,6 @@
 -- `accept` meets its contract: so much of the tree's buffer as a tree has room for is handed on.
 use lib.Seq.{length-take-le}
-use mathlib.Core.Path.{◌≡◌, refl, sym, ◌∙◌, ap}
+use mathlib.Core.Path.{sym, ◌∙◌}
 use native.Mathlib.Omega.{arith}
 use Rattle.toolchain.proofs.accept.accept.Goals as goal
 

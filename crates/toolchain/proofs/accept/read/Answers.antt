@@ -1,8 +1,6 @@
 -- `read` meets its contract: `parse`, and then `elaborate` of the tree that it wrote.
 use Rattle.toolchain.proofs.Answering.{tree_of_lem, unreadable_of, room_enough}
 use Rattle.declarations.proofs.Few.{tree_few}
-use Rattle.grammar.specs.Answers.{Good}
-use mathlib.Core.Path.{◌≡◌, refl, sym, ◌∙◌, ap}
 use native.Mathlib.Omega.{arith}
 use Rattle.toolchain.proofs.accept.read.Goals as goal
 

@@ -1,7 +1,7 @@
 -- `check` meets its contract: 6 where working room is short, else what `accept` says.
 use Rattle.toolchain.proofs.Answering.{lacks, suffices, made, refused, accepted_with}
-use Rattle.toolchain.specs.Checking.{Work, work, Enough, declined}
-use mathlib.Core.Path.{◌≡◌, refl}
+use Rattle.toolchain.specs.Checking.{work, Enough, declined}
+use mathlib.Core.Path.{refl}
 use Rattle.toolchain.proofs.check.check.Goals as goal
 
 pub returns-then-lacking : goal.returns-then-lacking

@@ -1,10 +1,10 @@
 -- `compile` meets its contract: 6 where working room is short, else what `accept` says, and the compiler's answer on the program's words.
 use Rattle.toolchain.proofs.Answering.{lacks, suffices, made, refused}
 use Rattle.toolchain.proofs.Compiling.{words_few, functions_few, compiled}
-use Rattle.toolchain.specs.Checking.{Work, work, Enough}
+use Rattle.toolchain.specs.Checking.{work}
 use Rattle.toolchain.specs.Compilation.{Compiles, no_work, no_program}
 use lib.Seq.{length-take-le}
-use mathlib.Core.Path.{◌≡◌, refl, sym, ◌∙◌, ap}
+use mathlib.Core.Path.{refl, sym}
 use native.Mathlib.Omega.{arith}
 use Rattle.toolchain.proofs.compile.compile.Goals as goal
 

@@ -1,6 +1,6 @@
 -- `told` meets its contract, case by case.
 use Rattle.toolchain.specs.Accepting.{told_of}
-use mathlib.Core.Path.{◌≡◌, refl, sym, ap}
+use mathlib.Core.Path.{sym, ap}
 use Rattle.toolchain.proofs.compile.told.Goals as goal
 
 pub returns-in-Image : goal.returns-in-Image

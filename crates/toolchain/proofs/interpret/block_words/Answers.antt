@@ -1,9 +1,8 @@
 -- `block_words` meets its contract: so far the first words, then what was there.
-use Rattle.toolchain.proofs.Blocks.{so_far, one_more, all_of_them}
-use lib.ListN.{length, length-set}
+use Rattle.toolchain.proofs.Blocks.{one_more, all_of_them}
+use lib.ListN.{length-set}
 use native.Mathlib.Numerals.{add-one}
-use Prim.Native.Nat.{◌-◌, ◌≤◌, ◌+◌}
-use mathlib.Core.Path.{◌≡◌, refl, sym, ◌∙◌, ap}
+use mathlib.Core.Path.{refl, ◌∙◌}
 use native.Mathlib.Omega.{arith}
 use Rattle.toolchain.proofs.interpret.block_words.Goals as goal
 

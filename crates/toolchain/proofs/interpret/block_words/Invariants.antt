@@ -1,10 +1,8 @@
 -- `block_words` meets its contract: so far the first words, then what was there.
-use Rattle.toolchain.proofs.Blocks.{so_far, one_more, all_of_them}
-use lib.ListN.{length, length-set}
-use native.Mathlib.Numerals.{add-one}
-use Prim.Native.Nat.{◌-◌, ◌≤◌, ◌+◌}
-use mathlib.Core.Path.{◌≡◌, refl, sym, ◌∙◌, ap}
-use native.Mathlib.Omega.{arith}
+use Rattle.toolchain.proofs.Blocks.{so_far}
+use lib.ListN.{length}
+use Prim.Native.Nat.{◌-◌, ◌≤◌}
+use mathlib.Core.Path.{◌≡◌}
 use Rattle.toolchain.proofs.interpret.block_words.Given as goal
 
 abbrev pub invariant-loop-i : goal.invariant-loop-i

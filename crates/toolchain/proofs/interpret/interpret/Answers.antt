@@ -1,8 +1,8 @@
 -- `interpret` meets its contract: 6 where working room is short, else what `accept` says, and the run of the program's words.
 use Rattle.toolchain.proofs.Answering.{lacks, suffices, made, refused}
-use Rattle.toolchain.specs.Checking.{Work, work, Enough}
+use Rattle.toolchain.specs.Checking.{work}
 use Rattle.toolchain.specs.Interpretation.{Interprets, no_work, no_program}
-use mathlib.Core.Path.{◌≡◌, refl}
+use mathlib.Core.Path.{refl}
 use native.Mathlib.Omega.{arith}
 use Rattle.toolchain.proofs.interpret.interpret.Goals as goal
 

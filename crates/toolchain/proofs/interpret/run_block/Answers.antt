@@ -1,7 +1,4 @@
 -- `run_block` meets its contract: the arrays are the block's words when the run begins.
-use mathlib.Core.Path.{◌≡◌, refl, sym, ◌∙◌, ap, subst}
-use mathlib.Core.List.{List}
-use Rattle.interpreter.specs.Post.{Runs}
 use Rattle.toolchain.proofs.interpret.run_block.Goals as goal
 
 pub returns : goal.returns

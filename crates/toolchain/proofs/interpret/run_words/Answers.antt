@@ -2,8 +2,7 @@
 use Rattle.toolchain.proofs.Running.{wrong_block, short_arrays, short_log, ran}
 use Rattle.toolchain.specs.Interpretation.{lent}
 use lib.Seq.{length-take-le}
-use lib.ListN.{length}
-use mathlib.Core.Path.{◌≡◌, refl, sym, ◌∙◌, ap}
+use mathlib.Core.Path.{sym}
 use native.Mathlib.Omega.{arith}
 use Rattle.toolchain.proofs.interpret.run_words.Goals as goal
 
