@@ -1,6 +1,6 @@
 // Doorlang for programs in C and C++. A rule program is a text that says what a fire panel does: it reads and writes arrays of ints, and emits ints to
 // a log. Four functions: check a text, run it (interpret), compile it to an image for the panel's processor (RV32IM), run an image (emulate). An image
-// does what its text does, and all four are proved: `rt staticlib doorlang_c` does that and writes target/staticlib/libdoorlang_c.a, for x86-64.
+// does what its text does, and all four are proved: `tools/staticlib doorlang_c` does that and writes target/staticlib/libdoorlang_c.a, for x86-64.
 //
 //     #define WORK tokens, DOORLANG_TOKENS, tree, DOORLANG_TREE, starts, DOORLANG_STARTS, core, DOORLANG_CORE
 //     static uint32_t tokens[DOORLANG_TOKENS], tree[DOORLANG_TREE], starts[DOORLANG_STARTS], core[DOORLANG_CORE], registers[DOORLANG_REGISTERS], log[8];

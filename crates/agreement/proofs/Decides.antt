@@ -1,11 +1,10 @@
 -- The test decides the relation: two runs agree exactly where it says so.
 use mathlib.Core.Path.{◌≡◌, refl, sym, ap, subst, ◌∙◌}
-use mathlib.Core.Bool.{Bool, true, false, not}
+use mathlib.Core.Bool.{Bool, true, not}
 use mathlib.Core.List.{List}
 use mathlib.Core.Option.{some}
 use Prim.Native.Nat.{ℕ, ◌*◌}
 use native.Mathlib.Omega.{arith}
-use lib.Dec.{eqb}
 use lib.ListN.{length, drop}
 use borrow.Author.Tests.{eq-eqb, eqb-true}
 use Rattle.word.specs.Choice.{both}
@@ -16,7 +15,7 @@ use Rattle.processor.specs.declared.Status.{Status}
 use Rattle.processor.specs.declared.Status.TheVariants.{Going, Exit, Trap, Fault, Limit}
 use Rattle.processor.specs.Run as M
 use Rattle.processor.specs.Image.{arrays_of}
-use Rattle.claims.specs.Keeps.{Costs, stop_for, Begins, Alike}
+use Rattle.claims.specs.Keeps.{Costs, stop_for, Begins}
 use Rattle.tokens.proofs.Lists.{clash, both_true, same_eq, same_refl, begins_append, begins_split}
 use Rattle.agreement.specs.Agreement.{Agrees, exits, traps_with, faults, agrees_of, agreed}
 

@@ -1,23 +1,23 @@
 -- The state of one activation: what its frame, its registers and the world have to do with each other; what a call of a function does.
-use mathlib.Core.Path.{◌≡◌, refl, sym, ap, ◌∙◌, subst}
+use mathlib.Core.Path.{◌≡◌, sym, ap, ◌∙◌}
 use mathlib.Core.Bool.{Bool, true, false}
-use mathlib.Core.List.{List, [], ◌∷◌, ◌++◌}
-use Prim.Native.Nat.{ℕ, zero, suc, ◌+◌, ◌-◌, ◌*◌, ◌%◌, ◌^◌, ◌≤◌, ◌<◌}
+use mathlib.Core.List.{List}
+use Prim.Native.Nat.{ℕ, zero, suc, ◌+◌, ◌*◌, ◌^◌, ◌≤◌, ◌<◌}
 use native.Mathlib.Omega.{arith}
 use lib.ListN.{length, get_or}
 use Rattle.processor.specs.declared.Status.TheVariants.{Going}
 use Rattle.processor.specs.Machine.{data_start}
 use Rattle.language.specs.Core.{Function}
-use Rattle.language.specs.Meaning.{World, Act, call_at, most_activations}
-use Rattle.symbolic.specs.Symbolic.{Fixed, Argument, Temporary, State, pos}
-use Rattle.codegen.specs.Places.{Place, constant, local, temporary, above, frame_bytes, local_word, temporary_word, stack_start, stack_end, most_temporaries, most_locals}
+use Rattle.language.specs.Meaning.{World, call_at, most_activations}
+use Rattle.symbolic.specs.Symbolic.{Fixed, Argument, State, pos}
+use Rattle.codegen.specs.Places.{Place, constant, local, temporary, above, frame_bytes, local_word, stack_start, stack_end, most_temporaries, most_locals}
 use Rattle.codegen.specs.Operators.{stub, trapping}
 use Rattle.language.specs.Rules.{most_elements_in_all}
 use Rattle.codegen.specs.Owed.{nothing}
 use Rattle.codegen.proofs.Placement.{At}
 use Rattle.codegen.specs.Costs.{K, C}
 use Rattle.codegen.proofs.Budgets.{activation_steps}
-use Rattle.codegen.proofs.Logic.{Arrays, Setting, spent, Post, Sound}
+use Rattle.codegen.proofs.Logic.{Arrays, Setting, spent, Sound}
 use Rattle.codegen.proofs.Frame.{Framed, Same, value_at, There, Stable, value_same}
 
 -- The code of a program: where each function begins, and the traps.

@@ -1,5 +1,4 @@
 -- The image is not much longer than the text: each token that a program takes at least pays for seven instructions.
-use mathlib.Core.Bool.{Bool}
 use mathlib.Core.List.{List, [], ◌∷◌}
 use Prim.Native.Nat.{ℕ, ◌+◌, ◌≤◌}
 use native.Mathlib.Omega.{arith}

@@ -1,22 +1,19 @@
 -- Calls: arguments go to the next frame, temporaries are saved, the function runs, temporaries are loaded.
 use mathlib.Core.Path.{◌≡◌, refl, sym, ap, ◌∙◌, subst}
-use mathlib.Core.Bool.{Bool, true, false, not}
-use mathlib.Core.List.{List, [], ◌∷◌, ◌++◌}
-use Prim.Native.Nat.{ℕ, zero, suc, ◌+◌, ◌-◌, ◌*◌, ◌%◌, ◌^◌, ◌≤◌, ◌<◌}
-use native.Mathlib.Nat.{zero-add, suc-add, add-zero, add-suc}
+use mathlib.Core.Bool.{Bool, true, false}
+use mathlib.Core.List.{List, [], ◌∷◌}
+use Prim.Native.Nat.{ℕ, zero, suc, ◌+◌, ◌-◌, ◌*◌, ◌^◌, ◌≤◌, ◌<◌}
+use native.Mathlib.Nat.{zero-add, add-zero}
 use native.Mathlib.Omega.{arith}
 use native.Mathlib.Decide.{ℕ_discrete}
-use lib.Dec.{ltb}
 use lib.ListN.{length, get_or}
 use borrow.Author.Tests.{ltb-true, ltb-false}
 use Rattle.word.specs.Choice.{pick}
-use Rattle.word.specs.Word.{add_w}
 use Rattle.processor.specs.declared.Status.TheVariants.{Going}
 use Rattle.processor.specs.declared.Alu.TheVariants.{Add}
 use Rattle.processor.specs.Execute.{alu_of}
-use Rattle.language.specs.Core.{Function}
-use Rattle.language.specs.Meaning.{World, Result, goes, stops, Act, call_at}
-use Rattle.symbolic.specs.Symbolic.{Fixed, Scratch, Argument, Temporary, Reg, reg, ra, sp, Instruction, opi, lw, sw, call, State, state, updated, set, value, pos, puts, stores}
+use Rattle.language.specs.Meaning.{World, goes, call_at}
+use Rattle.symbolic.specs.Symbolic.{Fixed, Scratch, Argument, Temporary, reg, ra, sp, State, state, updated, set, value, pos, puts, stores}
 use Rattle.codegen.specs.Places.{Place, constant, local, temporary, in_register, frame_bytes, local_word, temporary_word, stack_start, stack_end, source, fetch, most_temporaries, in_registers}
 use Rattle.codegen.specs.Expressions.{passes, saves, loads, registers_of, returning, entering, calling}
 use Rattle.language.specs.Rules.{most_parameters}
@@ -24,11 +21,11 @@ use Rattle.codegen.specs.Owed.{nothing}
 use Rattle.codegen.proofs.Placement.{At, at_split}
 use Rattle.codegen.specs.Costs.{K, C}
 use Rattle.codegen.proofs.Budgets.{entering_steps, calling_steps}
-use Rattle.codegen.proofs.Logic.{Arrays, Setting, Post, Sound, sound_rates, sound_then, sound_step, sound_end, sound_ran, Ran, ran_none, ran_step, ran_trans, ran_most}
+use Rattle.codegen.proofs.Logic.{Setting, Sound, sound_rates, sound_then, sound_step, sound_end, sound_ran, Ran, ran_none, ran_step, ran_trans, ran_most}
 use Rattle.codegen.proofs.Numbers.{add_is, down}
-use Rattle.codegen.proofs.Frame.{updated_same, updated_other, Framed, Only, only_puts, put_same, apart, value_by, value_at, There, lw_step, sw_step}
+use Rattle.codegen.proofs.Frame.{updated_same, updated_other, Only, only_puts, put_same, apart, value_by, value_at, There, lw_step, sw_step}
 use Rattle.codegen.proofs.Macros.{fetch_ok}
-use Rattle.codegen.proofs.Activation.{Linked, Activation, Back, Entered, CallIn, framed, high, Cor, arrays_same}
+use Rattle.codegen.proofs.Activation.{Linked, Activation, Back, framed, high, Cor, arrays_same}
 
 sum_is : (a b : ℕ) → a + b < 2 ^ 32 → alu_of Add a b ≡ a + b
 unfolding alu_of

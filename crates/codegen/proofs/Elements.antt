@@ -1,27 +1,26 @@
 -- An element is located: scratch register 0 and the offset give its address, or the machine is before the trap.
-use mathlib.Core.Path.{◌≡◌, refl, sym, ap, ◌∙◌, subst}
-use mathlib.Core.Bool.{Bool, true, false, not, true≢false}
-use mathlib.Core.List.{List, [], ◌∷◌, ◌++◌}
-use Prim.Native.Nat.{ℕ, zero, suc, ◌+◌, ◌-◌, ◌*◌, ◌/◌, ◌%◌, ◌^◌, ◌≤◌, ◌<◌}
+use mathlib.Core.Path.{◌≡◌, refl, sym, ap, ◌∙◌}
+use mathlib.Core.Bool.{Bool, true, false, true≢false}
+use Prim.Native.Nat.{ℕ, suc, ◌+◌, ◌*◌, ◌≤◌, ◌<◌}
 use native.Mathlib.Omega.{arith}
 use lib.Dec.{ltb}
-use lib.ListN.{length, get_or}
-use borrow.Author.Tests.{ltb-true, ltb-false}
+use lib.ListN.{get_or}
+use borrow.Author.Tests.{ltb-true}
 use Rattle.word.specs.Choice.{pick}
-use Rattle.word.specs.Word.{add_w, shl_w, lt_u}
+use Rattle.word.specs.Word.{add_w, lt_u}
 use Rattle.processor.specs.declared.Status.TheVariants.{Going}
 use Rattle.processor.specs.declared.Alu.TheVariants.{Add, Sll}
 use Rattle.processor.specs.declared.Cond.TheVariants.{Ltu}
 use Rattle.processor.specs.Execute.{alu_of, cond_of}
 use Rattle.processor.specs.Machine.{data_start}
 use Rattle.language.specs.Core.{Array}
-use Rattle.symbolic.specs.Symbolic.{Fixed, Scratch, reg, scratch, lui, shift, op, branch, call, bad, State, value, goto, puts}
+use Rattle.symbolic.specs.Symbolic.{Fixed, Scratch, scratch, call, bad, State, value, goto, puts}
 use Rattle.codegen.specs.Places.{Place, constant, local, temporary, upper_of, lower_of, constant_to, source, fetch}
-use Rattle.codegen.specs.Operators.{stub, address, inside, index, indexed, locate_by, locate, offset}
+use Rattle.codegen.specs.Operators.{stub, address, indexed, locate_by, locate, offset}
 use Rattle.codegen.proofs.Placement.{At, at_split}
 use Rattle.codegen.proofs.Logic.{Setting, Ran, ran_none, ran_step, ran_trans, ran_most}
 use Rattle.codegen.proofs.Numbers.{parts, shift_is, element_at}
-use Rattle.codegen.proofs.Frame.{Framed, Only, only_puts, Same, only_same, same_join, value_at, There}
+use Rattle.codegen.proofs.Frame.{Framed, only_puts, Same, only_same, same_join, value_at, There}
 use Rattle.codegen.proofs.Macros.{constant_ok, fetch_ok, source_only}
 use Rattle.language.specs.Rules.{most_elements_in_all}
 

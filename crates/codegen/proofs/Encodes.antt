@@ -1,14 +1,12 @@
 -- Every instruction of the image has a word.
-use mathlib.Core.Path.{◌≡◌, refl, sym, ap, ◌∙◌, subst}
+use mathlib.Core.Path.{◌≡◌, refl}
 use mathlib.Core.Bool.{Bool, true, false}
 use mathlib.Core.List.{List, [], ◌∷◌, ◌++◌}
-use Prim.Native.Nat.{ℕ, zero, suc, ◌+◌, ◌*◌, ◌^◌, ◌≤◌, ◌<◌}
+use Prim.Native.Nat.{ℕ, zero, suc, ◌+◌, ◌≤◌, ◌<◌}
 use native.Mathlib.Omega.{arith}
-use lib.Dec.{ltb}
 use lib.ListN.{length, length-append, get_or}
 use borrow.Author.Tests.{ltb-true}
 use Rattle.language.specs.Core.{Function, Program}
-use Rattle.symbolic.specs.Symbolic.{Instruction}
 use Rattle.symbolic.specs.Fine.{Fine, AllFine, most_instructions}
 use Rattle.symbolic.proofs.AllFine.{fine_append}
 use Rattle.codegen.specs.Statements.{function_by, near_in, function}

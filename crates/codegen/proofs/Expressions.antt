@@ -4,39 +4,37 @@ use mathlib.Core.Bool.{Bool, true, false}
 use mathlib.Core.Bool as B2
 use mathlib.Core.List.{List, [], ◌∷◌, ◌++◌}
 use mathlib.Core.Option.{Option, none, some}
-use Prim.Native.Nat.{ℕ, zero, suc, ◌+◌, ◌-◌, ◌*◌, ◌%◌, ◌^◌, ◌≤◌, ◌<◌}
-use native.Mathlib.Nat.{zero-add, suc-add, add-zero, add-suc}
+use Prim.Native.Nat.{ℕ, zero, suc, ◌+◌, ◌-◌, ◌*◌, ◌≤◌, ◌<◌}
 use native.Mathlib.Omega.{arith}
-use lib.Dec.{ltb}
 use lib.ListN.{length, get_or}
 use Rattle.word.specs.Choice.{pick}
 use Rattle.word.specs.Word.{bit_of}
 use Rattle.processor.specs.declared.Status.TheVariants.{Going}
 use Rattle.processor.specs.declared.Alu.TheVariants.{Add}
 use Rattle.processor.specs.declared.Cond.{Cond}
-use Rattle.processor.specs.declared.Cond.TheVariants.{Eq, Ne, Lt, Ge}
+use Rattle.processor.specs.declared.Cond.TheVariants.{Ne}
 use Rattle.processor.specs.Execute.{alu_of, cond_of}
 use Rattle.language.specs.Tree.{Unary, negate, Strict, eq, ne, lt, le, gt, ge, add, sub, mul, div, rem}
 use Rattle.language.specs.Tree as T
 use Rattle.language.specs.Core.{Array, Expr, Args}
 use Rattle.language.specs.Core as C
-use Rattle.language.specs.Meaning.{World, Result, goes, stops, Act, bind, begin, value as gives, branch, apply, operate, read, fetch as fetch_local, call_at, eval, evals}
-use Rattle.symbolic.specs.Symbolic.{Fixed, Scratch, Argument, Temporary, Reg, x0, reg, answer, Instruction, opi, mv, jump, bad, State, value, goto, puts}
-use Rattle.codegen.specs.Places.{Place, constant, local, temporary, above, in_register, source, fetch, target, keep, settle, move, most_temporaries}
+use Rattle.language.specs.Meaning.{World, Result, goes, Act, bind, begin, value as gives, branch, apply, operate, read, fetch as fetch_local, call_at, eval, evals}
+use Rattle.symbolic.specs.Symbolic.{Fixed, x0, answer, opi, mv, jump, bad, State, goto, puts}
+use Rattle.codegen.specs.Places.{Place, constant, local, temporary, above, source, fetch, target, keep, settle, move, most_temporaries}
 use Rattle.codegen.specs.Operators.{skip, sense, operating, result, applying, relation, comparing, testing, always, reading}
 use Rattle.codegen.specs.Expressions.{place_of, places_of, calling, deciding_by, code, codes, condition}
 use Rattle.language.specs.Rules.{most_parameters}
-use Rattle.codegen.specs.Owed.{nodes, nodes_of, count, nothing, Callable, Fits, FitsAll, Tests}
+use Rattle.codegen.specs.Owed.{nodes, nodes_of, count, nothing, Fits, FitsAll, Tests}
 use Rattle.codegen.proofs.Placement.{At, at_split, at_len}
 use Rattle.codegen.specs.Costs.{K}
 use Rattle.codegen.proofs.Budgets.{value_spare, answer_spare, own_steps, side_steps, call_share}
-use Rattle.codegen.proofs.Logic.{Arrays, Setting, spent, Post, Sound, sound_rates, sound_bind, sound_bind', sound_then, sound_then', sound_post, sound_begin, sound_end, sound_pure, sound_ran, Ran, ran_none, ran_step, ran_trans, ran_most}
-use Rattle.codegen.proofs.Frame.{Same, only_same, same_join, value_at, There, Stable, value_same}
+use Rattle.codegen.proofs.Logic.{Setting, spent, Post, Sound, sound_rates, sound_bind, sound_bind', sound_then, sound_then', sound_post, sound_begin, sound_end, sound_ran, Ran, ran_none, ran_step, ran_trans}
+use Rattle.codegen.proofs.Frame.{Same, only_same, same_join, value_at, There, value_same}
 use Rattle.codegen.proofs.Macros.{fetch_ok, put_ok, skip_ok}
 use Rattle.codegen.proofs.Elements.{same_goto}
-use Rattle.codegen.proofs.Activation.{Linked, Activation, framed, Cor, core_same, core_spent, ExprPost, Fit, there, stable, above_le, above_most, still, finish, aim, CondPost}
+use Rattle.codegen.proofs.Activation.{Linked, Activation, framed, Cor, core_spent, ExprPost, Fit, there, stable, above_le, still, finish, aim, CondPost}
 use Rattle.codegen.proofs.Operators.{one_is, zero_is, apply_lt, aim_test, aim_not, Ready, operates, applies, reads, tests, compares}
-use Rattle.codegen.proofs.Calls.{Held, Returned, calls}
+use Rattle.codegen.proofs.Calls.{Held, calls}
 
 -- the operators that are comparisons
 abbrev Law : Option (Cond × Bool) → Strict → Type 0

@@ -1,20 +1,17 @@
 -- Frames and what pieces of code leave as it was: relations between states, not exact states.
-use mathlib.Core.Path.{◌≡◌, refl, sym, ap, ◌∙◌, subst}
-use mathlib.Core.Bool.{Bool, true, false, not}
-use mathlib.Core.List.{List, [], ◌∷◌, ◌++◌}
-use Prim.Native.Nat.{ℕ, zero, suc, ◌+◌, ◌-◌, ◌*◌, ◌/◌, ◌%◌, ◌^◌, ◌≤◌, ◌<◌}
+use mathlib.Core.Path.{◌≡◌, refl, ap, ◌∙◌}
+use mathlib.Core.Bool.{Bool, true, false}
+use Prim.Native.Nat.{ℕ, suc, ◌+◌, ◌*◌, ◌%◌, ◌^◌, ◌≤◌, ◌<◌}
 use native.Mathlib.Omega.{arith}
-use lib.Dec.{ltb, leb, eqb}
-use lib.ListN.{length, get_or}
+use lib.Dec.{eqb}
 use borrow.Author.Tests.{eq-eqb, ne_eqb}
 use Rattle.word.specs.Choice.{pick, both}
 use Rattle.word.specs.Word.{add_w}
-use Rattle.processor.specs.declared.Status.{Status}
 use Rattle.processor.specs.declared.Status.TheVariants.{Going, Fault}
 use Rattle.processor.specs.declared.Width.TheVariants.{Word}
 use Rattle.processor.specs.Execute.{reaches}
-use Rattle.symbolic.specs.Symbolic.{Bank, Fixed, Scratch, Argument, Temporary, first, Reg, x0, reg, sp, scratch, lw, sw, State, state, updated, get, value, quit, puts, stores, exec1}
-use Rattle.codegen.specs.Places.{Place, constant, local, temporary, in_register, local_word, temporary_word, source, target, most_temporaries, most_locals}
+use Rattle.symbolic.specs.Symbolic.{Bank, Fixed, Scratch, Argument, Temporary, first, Reg, reg, sp, lw, sw, State, updated, value, quit, puts, stores, exec1}
+use Rattle.codegen.specs.Places.{Place, constant, local, temporary, in_register, local_word, temporary_word, most_temporaries, most_locals}
 use Rattle.codegen.proofs.Numbers.{add_is, in_data}
 
 pub updated_same : {A : Type 0} (f : ℕ → A) (k : ℕ) (v : A) → updated f k v k ≡ v

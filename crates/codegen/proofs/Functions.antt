@@ -2,8 +2,8 @@
 use mathlib.Core.Path.{◌≡◌, refl, sym, ap, ◌∙◌, subst}
 use mathlib.Core.Bool.{Bool, true, false, not}
 use mathlib.Core.List.{List, [], ◌∷◌, ◌++◌}
-use Prim.Native.Nat.{ℕ, zero, suc, ◌+◌, ◌-◌, ◌*◌, ◌%◌, ◌^◌, ◌≤◌, ◌<◌}
-use native.Mathlib.Nat.{zero-add, suc-add, add-zero, add-suc}
+use Prim.Native.Nat.{ℕ, zero, suc, ◌+◌, ◌-◌, ◌*◌, ◌≤◌, ◌<◌}
+use native.Mathlib.Nat.{zero-add}
 use native.Mathlib.Omega.{arith}
 use native.Mathlib.Decide.{dec_lt}
 use lib.Dec.{eqb}
@@ -15,22 +15,20 @@ use Rattle.processor.specs.declared.Alu.TheVariants.{Add}
 use Rattle.processor.specs.declared.Cond.TheVariants.{Ne}
 use Rattle.processor.specs.Execute.{cond_of}
 use Rattle.language.specs.Core.{Function}
-use Rattle.language.specs.Meaning.{World, Result, goes, stops, trapped, Act, bind, Flow, next, returned, result, back, call_at, most_activations}
-use Rattle.symbolic.specs.Symbolic.{Fixed, Argument, Temporary, Registers, x0, ra, sp, answer, Instruction, opi, sw, branch, call, State, updated, value, pos, goto, puts, stores, exec1}
-use Rattle.codegen.specs.Places.{frame_bytes, local_word, stack_start, stack_end, most_locals}
-use Rattle.codegen.specs.Operators.{stub}
+use Rattle.language.specs.Meaning.{World, Result, goes, stops, bind, Flow, next, returned, result, back, call_at, most_activations}
+use Rattle.symbolic.specs.Symbolic.{Fixed, Argument, Registers, x0, ra, sp, answer, opi, branch, State, updated, goto, puts, stores, exec1}
+use Rattle.codegen.specs.Places.{local_word, stack_end, most_locals}
 use Rattle.codegen.specs.Statements.{limit, leaving, block, clears, function_by, near_in, function}
-use Rattle.codegen.specs.Owed.{nothing, size_of, RunsAll, Proper}
+use Rattle.codegen.specs.Owed.{nothing, RunsAll, Proper}
 use Rattle.codegen.proofs.Placement.{At, at_split}
 use Rattle.codegen.specs.Costs.{K, C}
 use Rattle.codegen.proofs.Budgets.{activation_steps}
-use Rattle.codegen.proofs.Logic.{Arrays, Setting, Post, Sound, sound_bind, sound_end, sound_ran, Ran, ran_none, ran_step, ran_trans, ran_most}
-use Rattle.codegen.proofs.Frame.{updated_same, updated_other, Framed, Only, only_puts, sw_step}
+use Rattle.codegen.proofs.Logic.{Setting, Sound, sound_bind, sound_end, sound_ran, Ran, ran_none, ran_step, ran_trans, ran_most}
+use Rattle.codegen.proofs.Frame.{updated_same, updated_other, Framed, only_puts, sw_step}
 use Rattle.codegen.proofs.Macros.{trap_ok}
-use Rattle.codegen.proofs.Activation.{Linked, Activation, Core, Back, Entered, CallIn, framed, high, Cor, arrays_same}
+use Rattle.codegen.proofs.Activation.{Linked, Activation, Back, Entered, CallIn, framed, high, Cor, arrays_same}
 use Rattle.codegen.proofs.Operators.{zero_is}
-use Rattle.codegen.proofs.Calls.{upto}
-use Rattle.codegen.proofs.Statements.{NextPost, StmtPost, StmtIn, exs, blk, leaves, core_answer}
+use Rattle.codegen.proofs.Statements.{StmtPost, exs, blk, leaves, core_answer}
 
 -- a call's end as a sequence
 back_is : (room : ℕ) (ls : List ℕ) (r : Result Flow) → back room ls r ≡ bind r (λ f ls' w. goes (result room f) ls w)

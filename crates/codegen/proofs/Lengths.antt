@@ -15,8 +15,8 @@ use Rattle.language.specs.Core.{Expr, Args, Stmt, Block, Function}
 use Rattle.language.specs.Core as C
 use Rattle.symbolic.specs.Symbolic.{Reg, Instruction, opi, mv, sw, sp, answer, x0, jump, jump_back, ecall}
 use Rattle.codegen.specs.Places.{Place, local, temporary, above, local_word, fetch, target, keep, settle, move, bring, source}
-use Rattle.codegen.specs.Operators.{skip, operating, applying, result, relation, sense, left, right, comparing, testing, always, reading, writing}
-use Rattle.codegen.specs.Expressions.{place_of, places_of, passes, saves, entering, calling, registers_of, deciding_by, code, codes, condition}
+use Rattle.codegen.specs.Operators.{skip, operating, applying, result, relation, sense, left, right, testing, always, reading, writing}
+use Rattle.codegen.specs.Expressions.{place_of, places_of, passes, saves, calling, registers_of, deciding_by, code, codes, condition}
 use Rattle.codegen.specs.Statements.{over, otherwise, leaving, brought, answering, statement, block, clears, function_by, near_in, function}
 
 -- two pieces of one length

@@ -1,18 +1,16 @@
 -- The functions are where calls look for them, and so are the traps.
-use mathlib.Core.Path.{◌≡◌, refl, sym, ap, ◌∙◌, subst}
+use mathlib.Core.Path.{◌≡◌, refl, ap, ◌∙◌, subst}
 use mathlib.Core.List.{List, [], ◌∷◌, ◌++◌}
-use Prim.Native.Nat.{ℕ, zero, suc, ◌+◌, ◌*◌, ◌≤◌, ◌<◌}
+use Prim.Native.Nat.{ℕ, zero, suc, ◌+◌, ◌<◌}
 use native.Mathlib.Omega.{arith}
 use lib.ListN.{length, get_or}
 use Rattle.language.specs.Core.{Function, Program}
 use Rattle.symbolic.specs.Symbolic.{Instruction}
-use Rattle.codegen.specs.Operators.{trapping}
 use Rattle.codegen.specs.Statements.{function}
 use Rattle.codegen.specs.Image.{starting, traps, functions_start, entry_from, entry_of, functions_from, instructions_of}
 use Rattle.codegen.specs.Owed.{nothing, Owed}
 use Rattle.codegen.proofs.Placement.{At, at_split, at_len, at_whole}
 use Rattle.codegen.proofs.Lengths.{function_len}
-use Rattle.codegen.proofs.Logic.{Setting}
 use Rattle.codegen.proofs.Activation.{Linked}
 
 pub found : (code : List Instruction) (e : ℕ → ℕ) (gs : List Function) (p q : ℕ) → At code p (functions_from e gs) q

@@ -1,14 +1,11 @@
 -- The program logic: what the source does from here, the machine does from the state σ, in at most U steps; and the source's fuel is at most L, up to a
 -- debt z that the machine's steps pay.
 use mathlib.Core.Path.{◌≡◌, refl, sym, ap, ◌∙◌, subst}
-use mathlib.Core.Bool.{Bool, true, false}
-use mathlib.Core.List.{List, [], ◌∷◌, ◌++◌}
+use mathlib.Core.List.{List}
 use Prim.Native.Nat.{ℕ, zero, suc, ◌+◌, ◌-◌, ◌*◌, ◌≤◌, ◌<◌}
-use native.Mathlib.Nat.{zero-add, suc-add, add-zero, add-suc}
 use native.Mathlib.Omega.{arith}
 use lib.ListN.{length, get_or}
-use Rattle.processor.specs.declared.Status.{Status}
-use Rattle.processor.specs.declared.Status.TheVariants.{Going, Exit, Trap, Fault, Limit}
+use Rattle.processor.specs.declared.Status.TheVariants.{Going, Trap}
 use Rattle.processor.specs.Machine.{data_start}
 use Rattle.language.specs.Meaning.{World, Stop, trapped, out_of_fuel, Result, goes, stops, Act, bind, begin, begin_on}
 use Rattle.symbolic.specs.Symbolic.{Instruction, bad, State, exec1, run}

@@ -1,34 +1,24 @@
 -- Short pieces of code, each with one lemma: from such a state the machine comes to such a one in at most so many steps.
-use mathlib.Core.Path.{◌≡◌, refl, sym, ap, ◌∙◌, subst}
-use mathlib.Core.Bool.{Bool, true, false, not, true≢false}
-use mathlib.Core.List.{List, [], ◌∷◌, ◌++◌}
-use Prim.Native.Nat.{ℕ, zero, suc, ◌+◌, ◌-◌, ◌*◌, ◌/◌, ◌%◌, ◌^◌, ◌≤◌, ◌<◌}
-use native.Mathlib.Nat.{zero-add, suc-add, add-zero, add-suc}
+use mathlib.Core.Path.{◌≡◌, refl, ap, ◌∙◌}
+use mathlib.Core.Bool.{Bool, true, false, not}
+use mathlib.Core.List.{[], ◌∷◌}
+use Prim.Native.Nat.{ℕ, zero, suc, ◌+◌, ◌*◌, ◌^◌, ◌≤◌, ◌<◌}
 use native.Mathlib.Omega.{arith}
-use lib.Dec.{ltb, leb, eqb}
-use lib.ListN.{length, get_or}
-use borrow.Author.Tests.{ltb-true, ltb-false, lt-ltb, le-leb, eq-eqb, ne_eqb}
-use Rattle.word.specs.Choice.{pick, both}
-use Rattle.word.specs.Word.{add_w, shl_w, lt_u}
-use Rattle.processor.specs.declared.Status.{Status}
-use Rattle.processor.specs.declared.Status.TheVariants.{Going, Exit, Trap, Fault, Limit}
-use Rattle.processor.specs.declared.Alu.{Alu}
-use Rattle.processor.specs.declared.Alu.TheVariants.{Add, Sll}
+use lib.ListN.{get_or}
+use Rattle.word.specs.Choice.{pick}
+use Rattle.processor.specs.declared.Status.TheVariants.{Going, Trap}
+use Rattle.processor.specs.declared.Alu.TheVariants.{Add}
 use Rattle.processor.specs.declared.Cond.{Cond}
-use Rattle.processor.specs.declared.Cond.TheVariants.{Eq, Ne, Lt, Ge, Ltu, Geu}
-use Rattle.processor.specs.declared.Width.TheVariants.{Word}
-use Rattle.processor.specs.Execute.{alu_of, cond_of, reaches}
-use Rattle.processor.specs.Machine.{data_start}
-use Rattle.language.specs.Core.{Array}
-use Rattle.language.specs.Meaning.{World, Stop, trapped, out_of_fuel, Result, goes, stops, Act}
-use Rattle.symbolic.specs.Symbolic.{Bank, Fixed, Scratch, Argument, Temporary, first, Reg, x0, reg, ra, sp, answer, request, scratch, Instruction, lui, opi, shift, mv, op, lw, sw, branch, jump, call, ecall, bad, State, state, updated, get, set, value, pos, quit, goto, puts, stores, ecall_of, exec1}
+use Rattle.processor.specs.Execute.{alu_of, cond_of}
+use Rattle.language.specs.Meaning.{World, trapped, stops}
+use Rattle.symbolic.specs.Symbolic.{Bank, Fixed, Scratch, Argument, Temporary, Reg, reg, ra, sp, answer, scratch, Instruction, mv, lw, sw, call, bad, State, state, set, value, pos, quit, goto, puts, stores, ecall_of, exec1}
 use Rattle.codegen.specs.Places.{Place, constant, local, temporary, in_register, local_word, temporary_word, short, upper_of, lower_of, constant_by, constant_to, source, fetch, target, keep, bring, most_temporaries}
-use Rattle.codegen.specs.Operators.{stub, trapping, opposite, skip, address, inside, index, locate_by, locate, offset}
-use Rattle.codegen.proofs.Placement.{At, at_split, at_len}
-use Rattle.codegen.specs.Costs.{K, C}
-use Rattle.codegen.proofs.Logic.{Arrays, Setting, Post, Sound, Halt, sound_stop, sound_ran, Ran, ran_none, ran_step, ran_trans, ran_most}
-use Rattle.codegen.proofs.Numbers.{add_none, add_is, parts, shift_is, element_at, in_data, opposite_is}
-use Rattle.codegen.proofs.Frame.{updated_same, updated_other, Framed, Apart, Only, only_puts, only_none, only_trans, put_same, apart, Same, only_same, same_trans, value_by, value_at, There, Stable, value_same, lw_step, sw_step}
+use Rattle.codegen.specs.Operators.{stub, trapping, skip}
+use Rattle.codegen.proofs.Placement.{At}
+use Rattle.codegen.specs.Costs.{K}
+use Rattle.codegen.proofs.Logic.{Arrays, Setting, Post, Sound, sound_stop, sound_ran, Ran, ran_none, ran_step}
+use Rattle.codegen.proofs.Numbers.{add_none, parts, opposite_is}
+use Rattle.codegen.proofs.Frame.{updated_same, updated_other, Framed, Only, only_puts, only_none, only_trans, put_same, apart, Same, only_same, same_trans, value_by, value_at, There, lw_step, sw_step}
 
 -- what an instruction's sum with x0 is
 add_zero_is : (n : ℕ) → n < 2 ^ 32 → alu_of Add 0 n ≡ n

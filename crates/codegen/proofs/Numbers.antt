@@ -1,15 +1,12 @@
 -- Arithmetic of words that the instructions need: the two parts of a constant, addresses, sums that don't wrap.
-use mathlib.Core.Path.{◌≡◌, refl, sym, ap, ◌∙◌, subst}
+use mathlib.Core.Path.{◌≡◌, refl, sym, ◌∙◌}
 use mathlib.Core.Bool.{Bool, true, false, not}
-use mathlib.Core.List.{List, [], ◌∷◌, ◌++◌}
-use Prim.Native.Nat.{ℕ, zero, suc, ◌+◌, ◌-◌, ◌*◌, ◌/◌, ◌%◌, ◌^◌, ◌≤◌, ◌<◌}
-use native.Mathlib.Nat.{zero-add, suc-add, add-zero, add-suc}
+use Prim.Native.Nat.{ℕ, ◌+◌, ◌-◌, ◌*◌, ◌/◌, ◌%◌, ◌^◌, ◌≤◌, ◌<◌}
 use native.Mathlib.Omega.{arith}
 use native.Mathlib.Decide.{dec_lt}
-use lib.Dec.{ltb, leb, eqb}
-use borrow.Author.Tests.{ltb-true, ltb-false, lt-ltb, le-leb, eq-eqb, ne_eqb}
-use Rattle.word.specs.Choice.{pick, both}
-use Rattle.word.specs.Word.{add_w, sub_w, neg_w, shl_w, sign_extend, lt_s, lt_u, bit_of}
+use lib.Dec.{eqb}
+use borrow.Author.Tests.{le-leb, eq-eqb}
+use Rattle.word.specs.Word.{add_w, shl_w, sign_extend, lt_s, lt_u}
 use Rattle.processor.specs.declared.Width.TheVariants.{Word}
 use Rattle.processor.specs.declared.Cond.{Cond}
 use Rattle.processor.specs.declared.Cond.TheVariants.{Eq, Ne, Lt, Ge, Ltu, Geu}

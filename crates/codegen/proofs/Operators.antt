@@ -1,40 +1,39 @@
 -- Operators, elements and tests: for each a law of the table that its code is made from, and a lemma of the code.
 use mathlib.Core.Path.{◌≡◌, refl, sym, ap, ◌∙◌, subst}
-use mathlib.Core.Bool.{Bool, true, false, not, true≢false}
-use mathlib.Core.List.{List, [], ◌∷◌, ◌++◌}
-use mathlib.Core.Option.{Option, none, some}
-use Prim.Native.Nat.{ℕ, zero, suc, ◌+◌, ◌-◌, ◌*◌, ◌/◌, ◌%◌, ◌^◌, ◌≤◌, ◌<◌}
-use native.Mathlib.Nat.{zero-add, suc-add, add-zero, add-suc}
+use mathlib.Core.Bool.{Bool, true, false, not}
+use mathlib.Core.List.{List, ◌∷◌, ◌++◌}
+use mathlib.Core.Option.{none, some}
+use Prim.Native.Nat.{ℕ, zero, suc, ◌+◌, ◌-◌, ◌*◌, ◌%◌, ◌^◌, ◌≤◌, ◌<◌}
+use native.Mathlib.Nat.{zero-add}
 use native.Mathlib.Omega.{arith}
-use lib.Dec.{ltb, leb, eqb}
-use lib.ListN.{length, get_or, set}
-use borrow.Author.Tests.{ltb-true, ltb-false, lt-ltb, le-leb, eq-eqb, ne_eqb}
-use Rattle.word.specs.Choice.{pick, both}
-use Rattle.word.specs.Word.{add_w, sub_w, neg_w, mul_w, lt_s, lt_u, quot_s, rem_s, bit_of}
-use Rattle.processor.specs.declared.Status.TheVariants.{Going, Trap, Fault}
+use lib.Dec.{ltb, eqb}
+use lib.ListN.{get_or}
+use borrow.Author.Tests.{ltb-true, ne_eqb}
+use Rattle.word.specs.Choice.{pick}
+use Rattle.word.specs.Word.{add_w, sub_w, neg_w, lt_s, lt_u, bit_of}
+use Rattle.processor.specs.declared.Status.TheVariants.{Going, Fault}
 use Rattle.processor.specs.declared.Alu.{Alu}
-use Rattle.processor.specs.declared.Alu.TheVariants.{Add, Sub, Slt, Sltu, Mul, Div, Rem}
+use Rattle.processor.specs.declared.Alu.TheVariants.{Add, Slt}
 use Rattle.processor.specs.declared.Cond.{Cond}
-use Rattle.processor.specs.declared.Cond.TheVariants.{Eq, Ne, Lt, Ge, Ltu, Geu}
+use Rattle.processor.specs.declared.Cond.TheVariants.{Ne}
 use Rattle.processor.specs.declared.Width.TheVariants.{Word}
 use Rattle.processor.specs.Execute.{alu_of, cond_of, reaches}
-use Rattle.processor.specs.Machine.{data_start}
 use Rattle.language.specs.Tree.{Unary, negate, Strict, eq, ne, lt, le, gt, ge, add, sub, mul, div, rem}
 use Rattle.language.specs.Tree as T
 use Rattle.language.specs.Core.{Array}
-use Rattle.language.specs.Meaning.{World, Stop, trapped, Result, goes, stops, Act, value as gives, trap, apply, operate, read, tested as inside_of}
-use Rattle.symbolic.specs.Symbolic.{Fixed, Scratch, Argument, Temporary, Reg, x0, reg, scratch, Instruction, opi, op, lw, branch, jump, call, bad, State, value, quit, goto, puts, exec1}
-use Rattle.codegen.specs.Places.{Place, constant, local, temporary, above, in_register, short, source, fetch, target, keep, most_temporaries}
-use Rattle.codegen.specs.Operators.{stub, opposite, skip, Work, plain, divided, tested, work, left, right, working, with_constant, immediate, operating_by, operating, result, alone, applying, relation, sense, comparing, testing, always, address, locate, offset, reading}
-use Rattle.codegen.proofs.Placement.{At, at_split, at_len}
-use Rattle.codegen.specs.Costs.{K, C}
+use Rattle.language.specs.Meaning.{World, Result, goes, Act, value as gives, trap, apply, operate, read}
+use Rattle.symbolic.specs.Symbolic.{Fixed, Reg, x0, scratch, Instruction, opi, lw, branch, State, value, quit, goto, puts, exec1}
+use Rattle.codegen.specs.Places.{Place, constant, local, temporary, short, source, fetch, target, keep, most_temporaries}
+use Rattle.codegen.specs.Operators.{Work, plain, divided, tested, work, left, right, working, operating_by, operating, result, alone, applying, sense, comparing, testing, address, locate, offset, reading}
+use Rattle.codegen.proofs.Placement.{At, at_split}
+use Rattle.codegen.specs.Costs.{K}
 use Rattle.codegen.proofs.Budgets.{own_steps}
-use Rattle.codegen.proofs.Logic.{Arrays, Setting, spent, Post, Sound, sound_rates, sound_then, sound_then', sound_end, sound_ran, Ran, ran_none, ran_step, ran_trans, ran_most}
-use Rattle.codegen.proofs.Numbers.{add_none, add_is, in_data, opposite_is}
-use Rattle.codegen.proofs.Frame.{Framed, Only, Same, only_same, same_trans, same_join, same_less, value_at, There, Stable, value_same}
+use Rattle.codegen.proofs.Logic.{Setting, Sound, sound_rates, sound_end, sound_ran, Ran, ran_none, ran_step, ran_trans}
+use Rattle.codegen.proofs.Numbers.{in_data, opposite_is}
+use Rattle.codegen.proofs.Frame.{Same, only_same, same_join, same_less, value_at, There, Stable, value_same}
 use Rattle.codegen.proofs.Macros.{fetch_ok, source_only, same_target, value_target, keep_ok, put_ok, skip_ok, trap_ok}
-use Rattle.codegen.proofs.Elements.{same_goto, Found, Lost, Located, located}
-use Rattle.codegen.proofs.Activation.{Linked, Activation, framed, high, Cor, core_same, ExprPost, Fit, there, stable, finish, aim, CondPost}
+use Rattle.codegen.proofs.Elements.{same_goto, Located, located}
+use Rattle.codegen.proofs.Activation.{Linked, Activation, framed, Cor, core_same, ExprPost, finish, aim, CondPost}
 
 -- The tables' laws.
 

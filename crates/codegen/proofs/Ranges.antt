@@ -1,30 +1,30 @@
 -- Every instruction has a word: registers of their banks, immediates of 12 bits, branches that reach. First the short pieces of code.
-use mathlib.Core.Path.{◌≡◌, refl, sym, ap, ◌∙◌, subst}
+use mathlib.Core.Path.{◌≡◌, refl, subst}
 use mathlib.Core.Bool.{Bool, true, false}
 use mathlib.Core.List.{List, [], ◌∷◌, ◌++◌}
 use mathlib.Core.Option.{Option, none, some}
-use Prim.Native.Nat.{ℕ, zero, suc, ◌+◌, ◌-◌, ◌*◌, ◌/◌, ◌%◌, ◌^◌, ◌≤◌, ◌<◌}
+use Prim.Native.Nat.{ℕ, zero, suc, ◌+◌, ◌-◌, ◌*◌, ◌^◌, ◌≤◌, ◌<◌}
 use native.Mathlib.Omega.{arith}
 use lib.Dec.{ltb, leb}
 use lib.ListN.{length, length-append}
-use borrow.Author.Tests.{ltb-true, ltb-false, leb-true}
+use borrow.Author.Tests.{ltb-true, leb-true}
 use Rattle.word.specs.Choice.{pick, either}
 use Rattle.word.specs.Word.{neg_w, sign_extend}
 use Rattle.processor.specs.declared.Alu.{Alu}
-use Rattle.processor.specs.declared.Alu.TheVariants.{Add, Sub, Slt, Sltu, Sll}
+use Rattle.processor.specs.declared.Alu.TheVariants.{Add, Slt}
 use Rattle.processor.specs.declared.Cond.{Cond}
 use Rattle.processor.specs.declared.Cond.TheVariants.{Ne}
 use Rattle.processor.specs.Instructions.{Extended, Upper, Among, alu_key, immediates}
 use Rattle.language.specs.Tree.{Unary, negate, Strict, eq, ne, lt, le, gt, ge, add, sub, mul, div, rem}
 use Rattle.language.specs.Tree as T
 use Rattle.language.specs.Core.{Array}
-use Rattle.symbolic.specs.Symbolic.{Bank, Fixed, Scratch, Argument, Temporary, width, Reg, x0, reg, sp, answer, scratch, Instruction, lui, opi, shift, mv, op, lw, sw, branch, jump, call}
+use Rattle.symbolic.specs.Symbolic.{Bank, Scratch, Argument, Temporary, Reg, x0, reg, sp, answer, scratch, Instruction, opi, mv, lw, sw}
 use Rattle.symbolic.specs.Fine.{Valid, Fine, AllFine, most_instructions}
 use Rattle.symbolic.proofs.AllFine.{fine_append}
 use Rattle.symbolic.proofs.Immediates.{small12, minus12}
 use Rattle.codegen.specs.Places.{Place, constant, local, temporary, in_register, local_word, temporary_word, short, upper_of, lower_of, constant_by, constant_to, source, fetch, target, keep, move, bring, frame_bytes, most_temporaries, in_registers}
-use Rattle.codegen.specs.Operators.{stub, skip, Work, plain, divided, tested, work, left, right, working, operating_by, operating, alone, applying, result, sense, comparing, testing, always, address, inside, index, locate_by, locate, offset, reading, writing}
-use Rattle.codegen.specs.Expressions.{passes, saves, loads, registers_of, returning, entering, calling, deciding_by}
+use Rattle.codegen.specs.Operators.{skip, Work, plain, divided, tested, work, left, right, working, operating_by, operating, alone, applying, sense, comparing, testing, always, inside, locate_by, locate, reading, writing}
+use Rattle.codegen.specs.Expressions.{passes, saves, loads, registers_of, calling, deciding_by}
 use Rattle.codegen.proofs.Frame.{There}
 use Rattle.language.specs.Rules.{most_parameters}
 

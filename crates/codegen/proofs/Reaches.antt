@@ -1,30 +1,26 @@
 -- Every instruction of a program's code has a word: expressions, statements, functions, the whole.
-use mathlib.Core.Path.{◌≡◌, refl, sym, ap, ◌∙◌, subst}
+use mathlib.Core.Path.{◌≡◌, refl, ap, ◌∙◌}
 use mathlib.Core.Bool.{Bool, true, false}
 use mathlib.Core.Bool as B2
 use mathlib.Core.List.{List, [], ◌∷◌, ◌++◌}
-use Prim.Native.Nat.{ℕ, zero, suc, ◌+◌, ◌-◌, ◌*◌, ◌^◌, ◌≤◌, ◌<◌}
+use Prim.Native.Nat.{ℕ, zero, suc, ◌+◌, ◌-◌, ◌*◌, ◌≤◌, ◌<◌}
 use native.Mathlib.Omega.{arith}
-use lib.Dec.{ltb}
 use lib.ListN.{length, length-append, get_or}
-use borrow.Author.Tests.{ltb-true}
 use Rattle.processor.specs.declared.Alu.TheVariants.{Add}
 use Rattle.processor.specs.declared.Cond.TheVariants.{Ne}
 use Rattle.language.specs.Tree.{Unary, Strict}
 use Rattle.language.specs.Tree as T
 use Rattle.language.specs.Core.{Array, Expr, Args, Stmt, Block, Function, Program}
 use Rattle.language.specs.Core as C
-use Rattle.symbolic.specs.Symbolic.{Instruction, x0, sp, answer, request, opi, mv, sw, jump, jump_back, ecall, call}
+use Rattle.symbolic.specs.Symbolic.{Instruction, x0, sp, answer, opi, mv, sw, jump, jump_back, ecall}
 use Rattle.symbolic.specs.Fine.{Fine, AllFine, most_instructions}
 use Rattle.symbolic.proofs.AllFine.{fine_append}
 use Rattle.codegen.specs.Places.{Place, constant, local, temporary, above, local_word, source, fetch, target, keep, settle, move, bring, most_temporaries, most_locals}
 use Rattle.codegen.specs.Operators.{skip, sense, operating, result, applying, relation, testing, reading, writing}
 use Rattle.codegen.specs.Expressions.{place_of, places_of, calling, deciding_by, code, codes, condition}
-use Rattle.codegen.specs.Statements.{leaving, over, otherwise, brought, answering, statement, block, clears, function_by, near_in, function}
-use Rattle.codegen.specs.Image.{starting, traps, functions_start, entry_from, entry_of, functions_from, instructions_of}
+use Rattle.codegen.specs.Statements.{leaving, over, otherwise, brought, answering, statement, block, clears, function_by}
 use Rattle.language.specs.Rules.{most_elements_in_all, most_parameters}
-use Rattle.codegen.specs.Owed.{count, nothing, Callable, Fits, FitsAll, Tests, Runs, RunsAll, Proper, Owed}
-use Rattle.codegen.proofs.Lengths.{by_len, function_len}
+use Rattle.codegen.specs.Owed.{count, nothing, Callable, Fits, FitsAll, Tests, Runs, RunsAll}
 use Rattle.codegen.proofs.Frame.{There}
 use Rattle.codegen.proofs.Operators.{apply_lt}
 use Rattle.codegen.proofs.Ranges.{Within, within_less, within_far, small, valid_source, valid_target, fine_fetch, fine_keep, fine_move, fine_bring, fine_skip, fine_operating, fine_applying, fine_testing, fine_always, fine_reading, fine_writing, AllThere, fine_calling, fine_deciding}

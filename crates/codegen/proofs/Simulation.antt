@@ -1,28 +1,25 @@
 -- The whole run: what the source shows with n units of fuel, the symbolic processor shows after some m steps, and the other way round.
 use mathlib.Core.Path.{◌≡◌, refl, sym, ap, ◌∙◌, subst}
-use mathlib.Core.Bool.{Bool, true, false}
-use mathlib.Core.List.{List, [], ◌∷◌, ◌++◌}
-use Prim.Native.Nat.{ℕ, zero, suc, ◌+◌, ◌-◌, ◌*◌, ◌^◌, ◌≤◌, ◌<◌}
-use native.Mathlib.Nat.{zero-add}
+use mathlib.Core.List.{List, []}
+use Prim.Native.Nat.{ℕ, suc, ◌+◌, ◌*◌, ◌≤◌}
 use native.Mathlib.Omega.{arith}
-use lib.ListN.{length, get_or}
+use lib.ListN.{length}
 use Rattle.processor.specs.declared.Status.{Status}
 use Rattle.processor.specs.declared.Status.TheVariants.{Going, Exit, Trap, Fault, Limit}
-use Rattle.processor.specs.Machine.{data_start}
 use Rattle.language.specs.Core.{Program}
-use Rattle.language.specs.Meaning.{World, Stop, trapped, out_of_fuel, Result, goes, stops, Outcome, finished, stopped, Run, ended, call_at, run_of, most_activations}
-use Rattle.symbolic.specs.Symbolic.{Fixed, Argument, Registers, ra, sp, request, Instruction, State, state, set, pos, puts, quit, initial, run}
-use Rattle.symbolic.proofs.Runs.{Stopped, run_add, rests, later}
+use Rattle.language.specs.Meaning.{trapped, out_of_fuel, Result, goes, stops, Outcome, finished, stopped, Run, ended, call_at, most_activations}
+use Rattle.symbolic.specs.Symbolic.{ra, sp, request, State, state, set, pos, puts, quit, initial, run}
+use Rattle.symbolic.proofs.Runs.{Stopped, later}
 use Rattle.symbolic.proofs.Steps.{exits}
-use Rattle.symbolic.proofs.Arrays.{Holds, initial_holds}
+use Rattle.symbolic.proofs.Arrays.{initial_holds}
 use Rattle.symbolic.proofs.Instructions.{NoFault}
 use Rattle.codegen.specs.Places.{stack_start, stack_end}
 use Rattle.codegen.specs.Statements.{limit}
 use Rattle.codegen.specs.Image.{entry_of, instructions_of}
-use Rattle.codegen.specs.Owed.{nothing, Owed}
+use Rattle.codegen.specs.Owed.{Owed}
 use Rattle.codegen.specs.Costs.{K, K0, C, C0}
-use Rattle.codegen.proofs.Logic.{Arrays, Setting, Halt, Sound, sound_then, sound_step, sound_end, sound_ran, ran_none, ran_step}
-use Rattle.codegen.proofs.Activation.{Linked, Back, CallIn}
+use Rattle.codegen.proofs.Logic.{Arrays, Setting, Sound, sound_then, sound_step, sound_end, sound_ran, ran_none, ran_step}
+use Rattle.codegen.proofs.Activation.{Linked, CallIn}
 use Rattle.codegen.proofs.Operators.{one_is, zero_is}
 use Rattle.codegen.proofs.Functions.{called}
 use Rattle.codegen.proofs.Link.{linked, begun, placed}

@@ -2,42 +2,41 @@
 use mathlib.Core.Path.{◌≡◌, refl, sym, ap, ◌∙◌, subst}
 use mathlib.Core.Bool.{Bool, true, false}
 use mathlib.Core.List.{List, [], ◌∷◌, ◌++◌}
-use Prim.Native.Nat.{ℕ, zero, suc, ◌+◌, ◌-◌, ◌*◌, ◌/◌, ◌%◌, ◌^◌, ◌≤◌, ◌<◌}
-use native.Mathlib.Nat.{zero-add, suc-add, add-zero, add-suc}
+use Prim.Native.Nat.{ℕ, zero, suc, ◌+◌, ◌-◌, ◌*◌, ◌≤◌, ◌<◌}
 use native.Mathlib.Omega.{arith}
 use native.Mathlib.Decide.{ℕ_discrete}
 use lib.Dec.{ltb, eqb}
 use lib.ListN.{length, get_or, set, length-set}
-use borrow.Author.Tests.{ltb-true, ltb-false, eq-eqb}
+use borrow.Author.Tests.{ltb-true, eq-eqb}
 use Rattle.word.specs.Choice.{pick}
 use Rattle.word.specs.Word.{add_w}
 use Rattle.processor.specs.declared.Status.TheVariants.{Going, Exit, Trap, Fault}
 use Rattle.processor.specs.declared.Alu.TheVariants.{Add}
 use Rattle.processor.specs.declared.Width.TheVariants.{Word}
-use Rattle.processor.specs.Execute.{alu_of, reaches}
+use Rattle.processor.specs.Execute.{reaches}
 use Rattle.processor.specs.Machine.{data_start}
 use Rattle.language.specs.Core.{Array, Expr, Args, Stmt, Block}
 use Rattle.language.specs.Core as C
-use Rattle.language.specs.Meaning.{World, Stop, trapped, out_of_fuel, Result, goes, stops, Act, bind, begin, value as gives, trap, branch, write, assign, append, Flow, next, returned, followed, rounds, call_at, eval, exec, block as block_of}
-use Rattle.symbolic.specs.Symbolic.{Fixed, Scratch, Argument, Temporary, Reg, x0, reg, ra, sp, answer, request, scratch, Instruction, opi, lw, sw, jump, jump_back, ret, ecall, bad, State, state, updated, value, pos, position_of, quit, goto, puts, stores, logs, ecall_of, exec1}
-use Rattle.codegen.specs.Places.{Place, constant, local, temporary, above, local_word, temporary_word, stack_start, source, fetch, bring, most_temporaries}
-use Rattle.codegen.specs.Operators.{stub, address, locate, offset, writing}
+use Rattle.language.specs.Meaning.{World, trapped, Result, goes, stops, Act, bind, begin, value as gives, trap, branch, write, assign, append, Flow, next, returned, followed, rounds, call_at, eval, exec, block as block_of}
+use Rattle.symbolic.specs.Symbolic.{Fixed, Scratch, Argument, x0, ra, sp, answer, scratch, opi, sw, jump, jump_back, ret, ecall, bad, State, updated, value, pos, position_of, quit, goto, puts, stores, logs, ecall_of, exec1}
+use Rattle.codegen.specs.Places.{Place, above, local_word, source, fetch, bring, most_temporaries}
+use Rattle.codegen.specs.Operators.{address, locate, offset, writing}
 use Rattle.codegen.specs.Expressions.{place_of, places_of, calling, code, codes, condition}
 use Rattle.codegen.specs.Statements.{leaving, over, otherwise, brought, answering, statement, block}
 use Rattle.language.specs.Rules.{most_parameters}
-use Rattle.codegen.specs.Owed.{nodes, nodes_of, size, size_of, count, nothing, Callable, Fits, FitsAll, Tests, Runs, RunsAll}
+use Rattle.codegen.specs.Owed.{nodes, nodes_of, size, size_of, nothing, Fits, Tests, Runs, RunsAll}
 use Rattle.codegen.proofs.Placement.{At, at_split, at_len}
 use Rattle.codegen.specs.Costs.{K, C}
 use Rattle.codegen.proofs.Budgets.{answer_spare, call_share}
-use Rattle.codegen.proofs.Logic.{Arrays, Setting, spent, Post, Sound, Halt, sound_rates, sound_bind, sound_bind', sound_then, sound_then', sound_post, sound_begin, sound_step, sound_end, sound_stop, sound_pure, sound_ran, Ran, ran_none, ran_step, ran_trans, ran_most}
+use Rattle.codegen.proofs.Logic.{Setting, spent, Sound, sound_rates, sound_bind, sound_bind', sound_then, sound_then', sound_post, sound_begin, sound_step, sound_end, sound_stop, sound_ran, Ran, ran_none, ran_step, ran_trans}
 use Rattle.codegen.proofs.Numbers.{in_data}
-use Rattle.codegen.proofs.Frame.{updated_same, updated_other, Framed, Only, only_puts, Same, only_same, same_join, value_at, There, Stable, value_same, lw_step, sw_step}
+use Rattle.codegen.proofs.Frame.{updated_same, updated_other, Only, only_puts, only_same, value_at, There, Stable, value_same, lw_step, sw_step}
 use Rattle.codegen.proofs.Macros.{fetch_ok, bring_ok, trap_ok}
-use Rattle.codegen.proofs.Elements.{Found, Lost, Located, located}
-use Rattle.codegen.proofs.Activation.{Linked, Activation, Core, Back, framed, high, Cor, core_same, core_spent, arrays_same, ExprPost, Fit, there, stable, above_le, still, aim, CondPost}
+use Rattle.codegen.proofs.Elements.{Located, located}
+use Rattle.codegen.proofs.Activation.{Linked, Activation, Core, Back, framed, high, Cor, core_same, core_spent, arrays_same, Fit, there, stable, still, CondPost}
 use Rattle.codegen.proofs.Operators.{zero_is}
-use Rattle.codegen.proofs.Calls.{Held, Returned, calls}
-use Rattle.codegen.proofs.Expressions.{ExprIn, CondIn, ArgsPost, ArgsIn, fit_of, left_of, places_count, ev, evs, expr, args, cond}
+use Rattle.codegen.proofs.Calls.{calls}
+use Rattle.codegen.proofs.Expressions.{ExprIn, CondIn, ArgsIn, fit_of, left_of, places_count, ev, evs, expr, args, cond}
 
 -- a list with one element set
 pub set_same : (l : List ℕ) (i v : ℕ) → i < length l → get_or (set l i v) i 0 ≡ v

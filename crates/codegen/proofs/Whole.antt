@@ -1,6 +1,5 @@
 -- The theorem: the image of a program that is what elaboration gives, and that fits, keeps the meaning.
 use mathlib.Core.Path.{◌≡◌, refl, sym, ap, ◌∙◌, subst}
-use mathlib.Core.Bool.{Bool, true, false}
 use mathlib.Core.List.{List, [], ◌∷◌, ◌++◌, append-nil}
 use mathlib.Core.Option.{Option, none, some}
 use mathlib.Core.Logic.{◌⊎◌, ⊎_elim}
@@ -9,24 +8,21 @@ use native.Mathlib.Omega.{arith}
 use lib.ListN.{length, get_or}
 use Rattle.word.specs.Bytes.{bytes_of, bytes_of_words}
 use Rattle.processor.specs.declared.Status.{Status}
-use Rattle.processor.specs.declared.Status.TheVariants.{Going, Exit, Trap, Fault, Limit}
+use Rattle.processor.specs.declared.Status.TheVariants.{Exit, Trap, Limit}
 use Rattle.processor.specs.Run as M
 use Rattle.processor.specs.Image.{run_image, arrays_of}
 use Rattle.language.specs.Core.{Program}
-use Rattle.language.specs.Meaning.{World, Stop, trapped, out_of_fuel, Outcome, finished, stopped, Run, run_of}
+use Rattle.language.specs.Meaning.{trapped, out_of_fuel, Outcome, finished, stopped, Run, run_of}
 use Rattle.claims.specs.Keeps.{stop_for, Begins, Below, Input, Alike, Keeps}
-use Rattle.symbolic.specs.Symbolic.{State, initial, count}
+use Rattle.symbolic.specs.Symbolic.{State, initial}
 use Rattle.symbolic.specs.Real.{words_from, image_of}
-use Rattle.symbolic.proofs.Runs.{Stopped, run_add, log_grows, later, count_most}
-use Rattle.symbolic.proofs.Instructions.{NoFault}
+use Rattle.symbolic.proofs.Runs.{Stopped, run_add, log_grows, count_most}
 use Rattle.symbolic.proofs.Shown.{shown, shown_exit, shown_trap}
-use Rattle.symbolic.proofs.Arrays.{Holds}
 use Rattle.symbolic.proofs.Follows.{Loads, Seen, runnable, follows, follows_stop, never_faults}
 use Rattle.codegen.specs.Image.{instructions_of, image}
 use Rattle.codegen.specs.Owed.{Owed}
 use Rattle.codegen.specs.Costs.{K, K0, C, C0, costs}
-use Rattle.codegen.proofs.Logic.{Arrays}
-use Rattle.codegen.proofs.Simulation.{seen, source, after, Agree, Forward, forward, Matched, matched, enough, at_least, same_then, no_fault}
+use Rattle.codegen.proofs.Simulation.{seen, source, after, Agree, forward, matched, enough, at_least, same_then, no_fault}
 use Rattle.codegen.proofs.Encodes.{fine}
 use Rattle.symbolic.specs.Fine.{most_instructions}
 

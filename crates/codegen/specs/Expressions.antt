@@ -1,7 +1,7 @@
 -- The code of expressions: as values, which are then at their places, and as conditions, which jump.
 -- In postfix order an item's code follows from the places of its operands and from what comes next: it is a condition where, behind the `!`s that follow it,
 -- a side of `&&` or `||` or a whole condition ends, and a value elsewhere. Jumps forward are filled in where they arrive.
-use Rattle.std.specs.Prelude.{ℕ, zero, suc, ◌+◌, ◌-◌, ◌*◌, ◌^◌, Bool, true, false, List, [], ◌∷◌, ◌++◌, length, ltb}
+use Rattle.std.specs.Prelude.{ℕ, zero, suc, ◌+◌, ◌-◌, ◌*◌, ◌^◌, Bool, true, false, List, [], ◌∷◌, ◌++◌, length}
 use Rattle.std.proofs.Math.Bool as B
 use Rattle.std.proofs.Math.Option.{Option, none, some}
 use Rattle.word.specs.Choice.{pick}

@@ -1,5 +1,5 @@
 -- The image: the first instructions, the traps, then the functions in order of declaration.
-use Rattle.std.specs.Prelude.{ℕ, zero, suc, ◌+◌, ◌-◌, ◌*◌, Bool, true, false, List, [], ◌∷◌, ◌++◌, length}
+use Rattle.std.specs.Prelude.{ℕ, zero, suc, ◌+◌, List, [], ◌∷◌, ◌++◌, length}
 use Rattle.processor.specs.declared.Alu.TheVariants.{Add}
 use Rattle.language.specs.Meaning.{division_by_zero, index_outside, too_many_activations}
 use Rattle.language.specs.Core.{Function, Program}

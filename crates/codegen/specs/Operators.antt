@@ -1,5 +1,5 @@
 -- Operators, jumps and traps: which instructions they are.
-use Rattle.std.specs.Prelude.{ℕ, zero, suc, ◌+◌, ◌-◌, ◌*◌, Bool, true, false, List, [], ◌∷◌, ◌++◌, ltb}
+use Rattle.std.specs.Prelude.{ℕ, zero, suc, ◌+◌, ◌*◌, Bool, true, false, List, [], ◌∷◌, ◌++◌, ltb}
 use Rattle.std.proofs.Math.Option.{Option, none, some}
 use Rattle.word.specs.Choice.{pick}
 use Rattle.word.specs.Word.{neg_w}

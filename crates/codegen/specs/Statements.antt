@@ -1,6 +1,5 @@
 -- The code of statements, blocks and functions.
-use Rattle.std.specs.Prelude.{ℕ, zero, suc, ◌+◌, ◌-◌, ◌*◌, Bool, true, false, List, [], ◌∷◌, ◌++◌, length, ltb}
-use Rattle.word.specs.Choice.{pick}
+use Rattle.std.specs.Prelude.{ℕ, zero, suc, ◌+◌, ◌*◌, Bool, true, false, List, [], ◌∷◌, ◌++◌, length, ltb}
 use Rattle.processor.specs.declared.Alu.TheVariants.{Add}
 use Rattle.processor.specs.declared.Cond.TheVariants.{Ne}
 use Rattle.language.specs.Core.{Expr, Stmt, Block, Function}

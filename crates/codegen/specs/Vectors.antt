@@ -1,5 +1,5 @@
 -- What the compiler makes of the vectors of document 01, run: steps, and how the run stops.
-use Rattle.std.specs.Prelude.{Bool, true, false, not, List, [], ◌∷◌, ◌++◌, ◌≡◌, refl, ℕ, zero, suc, ◌+◌, ◌-◌, ◌*◌, ◌/◌, ◌^◌, length, get_or}
+use Rattle.std.specs.Prelude.{Bool, true, false, List, [], ◌∷◌, ◌≡◌, refl, ℕ, zero, suc, ◌-◌, ◌/◌, length, get_or}
 use Rattle.word.specs.Choice.{pick}
 use Rattle.word.specs.Word.{add_w, sub_w, mul_w, neg_w, negative, magnitude, lt_s, lt_u, quot_s, rem_s, bit_of, shl_w, sign_extend}
 use Rattle.processor.specs.declared.Status.{Status}

@@ -20,7 +20,7 @@ use Rattle.language.specs.Core.{Expr}
 use Rattle.language.specs.Core as C
 use Rattle.flat.specs.Words.{word, unary_number, strict_number}
 use Rattle.symbolic.specs.Symbolic.{Instruction, answer, x0}
-use Rattle.codegen.specs.Places.{Place, local, temporary, above}
+use Rattle.codegen.specs.Places.{Place, temporary, above}
 use Rattle.codegen.specs.Operators.{skip, sense, operating, applying, result, relation, comparing, testing, always, reading}
 use Rattle.codegen.specs.Expressions.{place_of, places_of, code, codes, condition, calling, deciding_by}
 use Rattle.emission.specs.Tape.{Emits}

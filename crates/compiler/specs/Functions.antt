@@ -1,5 +1,5 @@
 -- What the functions for whole functions ensure, of every function whose four words begin where they look.
-use Rattle.std.specs.Prelude.{ℕ, ◌+◌, ◌-◌, ◌≤◌, ◌<◌, ◌≡◌, Bool, List, length}
+use Rattle.std.specs.Prelude.{ℕ, ◌+◌, ◌-◌, ◌≤◌, ◌≡◌, Bool, List, length}
 use Rattle.language.specs.Core.{Function}
 use Rattle.flat.specs.Words.{word}
 use Rattle.codegen.specs.Statements.{function_by, near_in}

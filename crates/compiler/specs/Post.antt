@@ -1,12 +1,11 @@
 -- What the functions ensure, of every expression that may end where they look.
 use Rattle.std.specs.Prelude.{ℕ, ◌+◌, ◌-◌, ◌*◌, ◌≤◌, ◌<◌, ◌≡◌, Bool, true, false, List, [], ◌∷◌, ◌++◌, ltb, leb, get_or, length}
-use Rattle.std.proofs.Math.Option.{Option, none, some}
+use Rattle.std.proofs.Math.Option.{Option, some}
 use Rattle.word.specs.Choice.{pick}
 use Rattle.language.specs.Tree.{Unary, Strict}
 use Rattle.language.specs.Core.{Expr, Args}
 use Rattle.language.specs.Core as C
 use Rattle.processor.specs.declared.Cond.{Cond}
-use Rattle.symbolic.specs.Symbolic.{Instruction}
 use Rattle.flat.specs.Words.{word, unary_number, strict_number}
 use Rattle.codegen.specs.Owed.{count}
 use Rattle.codegen.specs.Places.{Place, above}

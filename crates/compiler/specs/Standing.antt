@@ -1,5 +1,5 @@
 -- Where statements and blocks stand among the words of a flat program: a statement from the position of its header on, a block as so many statements.
-use Rattle.std.specs.Prelude.{ℕ, zero, suc, ◌+◌, ◌*◌, ◌≤◌, ◌≡◌, List}
+use Rattle.std.specs.Prelude.{ℕ, suc, ◌+◌, ◌*◌, ◌≤◌, ◌≡◌, List}
 use Rattle.language.specs.Core.{Array, Expr, Args, Stmt, Block}
 use Rattle.language.specs.Core as C
 use Rattle.flat.specs.Words.{word}

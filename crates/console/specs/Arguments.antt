@@ -1,5 +1,5 @@
 -- What the arguments of the program mean: the command, the options after it, and which argument was given for what.
-use Rattle.std.specs.Prelude.{ℕ, suc, ◌+◌, Bool, true, false, not, List, [], ◌∷◌, eqb, ltb, get_or, set}
+use Rattle.std.specs.Prelude.{ℕ, suc, ◌+◌, Bool, false, not, List, [], ◌∷◌, eqb, ltb, get_or, set}
 use Rattle.word.specs.Choice.{pick, both}
 use Rattle.language.specs.Tokens.{bytes, same, starts, is}
 use Rattle.console.specs.declared.arguments.Command.{Command}

@@ -11,10 +11,10 @@ use borrow.Author.Tests.{ne_eqb}
 use Rattle.language.specs.Tree.{Place, Name, Ty, Param, Item}
 use Rattle.language.specs.Tree as T
 use Rattle.language.specs.Core as C
-use Rattle.language.specs.Rules.{Ruled, breaks, ◌>>=◌, ◌>>◌, need, Global, block, must_end, parameters, function_from, most_parameters}
+use Rattle.language.specs.Rules.{Ruled, breaks, ◌>>=◌, need, Global, block, must_end, parameters, function_from, most_parameters}
 use Rattle.grammar.specs.Flat as G
 use Rattle.flat.specs.Statements.{flats}
-use Rattle.flat.specs.Words.{count, block_words}
+use Rattle.flat.specs.Words.{block_words}
 use Rattle.rules.specs.Tables.{word, result_of}
 use Rattle.rules.specs.Post.{scope_of}
 use Rattle.rules.proofs.Stating.{went, stopped}

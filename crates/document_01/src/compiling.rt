@@ -6,6 +6,8 @@ use crate::say::{
 };
 use emulator::run::Ended;
 use processor::Status;
+use std::io;
+use std::io::Write;
 use toolchain::compile::Compiled;
 use toolchain::{Outcome, compile};
 use word::bytes::word_of;
@@ -15,27 +17,29 @@ const MOST_ELEMENTS: usize = 16384;
 
 // A text, compiled into as much of the image's buffer as is lent, and the bytes that its image has; of none 0, once the refusal is said.
 pub fn image_of(
+    out: &mut impl Write,
     text: &[u8],
     image: &mut [u8],
     tokens: &mut [u32],
     tree: &mut [u32],
     starts: &mut [u32],
     core: &mut [u32],
-) -> usize {
+) -> io::Result<usize> {
     fill_bytes(image);
     let r = compile::compile(text, image, tokens, tree, starts, core);
     match r {
         Compiled::Refused(n, at) => {
-            refusal(n, at);
-            kept(bytes_kept(image, 0), true);
-            0
+            refusal(out, n, at)?;
+            kept(out, bytes_kept(image, 0), true)?;
+            Ok(0)
         }
-        Compiled::Image(n) => n,
+        Compiled::Image(n) => Ok(n),
     }
 }
 
 // Which buffers of working room are a word short, the bytes of the image's buffer, then a text: compiled, and its image's size said.
 pub fn compile_text(
+    out: &mut impl Write,
     line: &[u8],
     text: &mut [u8],
     image: &mut [u8],
@@ -43,7 +47,7 @@ pub fn compile_text(
     tree: &mut [u32],
     starts: &mut [u32],
     core: &mut [u32],
-) {
+) -> io::Result<()> {
     let short = line::number(line, 2);
     let bytes = line::number(line, short.next);
     let n = line::plain(line, bytes.next, text);
@@ -54,40 +58,41 @@ pub fn compile_text(
     let c = line::shortened(starts.len(), short.value, 4);
     let d = line::shortened(core.len(), short.value, 8);
     let k = image_of(
+        out,
         &text[..size],
         &mut image[..m],
         &mut tokens[..a],
         &mut tree[..b],
         &mut starts[..c],
         &mut core[..d],
-    );
-    say_image(k, &image[..m])
+    )?;
+    say_image(out, k, &image[..m])
 }
 
 // An image's size, and whether what lies beyond it is as it was.
-fn say_image(k: usize, image: &[u8]) {
+fn say_image(out: &mut impl Write, k: usize, image: &[u8]) -> io::Result<()> {
     if k == 0 {
-        return;
+        return Ok(());
     }
-    say(b"image of ");
-    number(k);
-    say(b" bytes");
-    kept(bytes_kept(image, k), true)
+    say(out, b"image of ")?;
+    number(out, k)?;
+    say(out, b" bytes")?;
+    kept(out, bytes_kept(image, k), true)
 }
 
-fn say_status(s: Status) {
+fn say_status(out: &mut impl Write, s: Status) -> io::Result<()> {
     match s {
-        Status::Going => say(b"going"),
-        Status::Exit => say(b"finished"),
+        Status::Going => say(out, b"going"),
+        Status::Exit => say(out, b"finished"),
         Status::Trap(t) => {
-            say(b"trap ");
-            count(wide(t))
+            say(out, b"trap ")?;
+            count(out, wide(t))
         }
         Status::Fault(n) => {
-            say(b"fault ");
-            count(wide(n))
+            say(out, b"fault ")?;
+            count(out, wide(n))
         }
-        Status::Limit => say(b"limit"),
+        Status::Limit => say(out, b"limit"),
     }
 }
 
@@ -128,27 +133,30 @@ fn copy_arrays(memory: &[u8], arrays: &mut [u32], elements: usize) {
 }
 
 // How many words the image has, and how many steps it ran.
-fn say_figures(counted: bool, size: usize, steps: u64) {
+fn say_figures(out: &mut impl Write, counted: bool, size: usize, steps: u64) -> io::Result<()> {
     if counted {
-        say(b" words ");
-        number(size / 4);
-        say(b" steps ");
-        count(steps)
+        say(out, b" words ")?;
+        number(out, size / 4)?;
+        say(out, b" steps ")?;
+        count(out, steps)?;
     }
+    Ok(())
 }
 
 // Whether what lies beyond the memory and the registers is as it was.
-fn say_beyond(memory: &[u8], registers: &[u32]) {
+fn say_beyond(out: &mut impl Write, memory: &[u8], registers: &[u32]) -> io::Result<()> {
     if !bytes_kept(memory, 0x200000) {
-        say(b" CHANGED");
+        say(out, b" CHANGED")?;
     }
     if !words_kept(registers, 32) {
-        say(b" CHANGED");
+        say(out, b" CHANGED")?;
     }
+    Ok(())
 }
 
 // Where the run ended: said as a run of the interpreter is.
 fn say_ended(
+    out: &mut impl Write,
     e: Ended,
     counted: bool,
     size: usize,
@@ -157,13 +165,13 @@ fn say_ended(
     registers: &[u32],
     arrays: &mut [u32],
     log: &[u32],
-) {
+) -> io::Result<()> {
     let status = e.status;
-    say_status(status);
-    say_figures(counted, size, e.steps);
-    say_beyond(memory, registers);
+    say_status(out, status)?;
+    say_figures(out, counted, size, e.steps)?;
+    say_beyond(out, memory, registers)?;
     copy_arrays(memory, arrays, elements);
-    state(log, e.logged, arrays, elements)
+    state(out, log, e.logged, arrays, elements)
 }
 
 // A hundred steps for each unit of fuel, and a thousand besides.
@@ -173,6 +181,7 @@ fn limit_of(fuel: u64) -> u64 {
 
 // An image, run on a block with the buffers that are lent.
 fn run_image(
+    out: &mut impl Write,
     counted: bool,
     room: usize,
     limit: u64,
@@ -182,7 +191,7 @@ fn run_image(
     log: &mut [u32],
     memory: &mut [u8],
     registers: &mut [u32],
-) {
+) -> io::Result<()> {
     fill_words(arrays);
     fill_words(log);
     fill_bytes(memory);
@@ -190,10 +199,11 @@ fn run_image(
     let o = toolchain::emulate(image, block, memory, registers, log, room, limit);
     match o {
         Outcome::Refused(n) => {
-            refusal(n, 0);
-            kept(words_kept(log, 0), bytes_kept(memory, 0))
+            refusal(out, n, 0)?;
+            kept(out, words_kept(log, 0), bytes_kept(memory, 0))
         }
         Outcome::Ran(e) => say_ended(
+            out,
             e,
             counted,
             image.len(),
@@ -213,18 +223,20 @@ fn memory_room() -> [u8; 2097216] {
 
 // An image, run as it was asked; its words and steps are said too, if that was.
 pub fn emulate_image(
+    out: &mut impl Write,
     q: Asked,
     counted: bool,
     image: &[u8],
     block: &[u8],
     arrays: &mut [u32],
     log: &mut [u32],
-) {
+) -> io::Result<()> {
     let mut memory = memory_room();
     let mut registers = [0u32; 40];
     let xs = line::at_most(q.arrays, arrays.len());
     let ls = line::at_most(q.log, log.len());
     run_image(
+        out,
         counted,
         q.room as usize,
         limit_of(q.fuel),

@@ -1,8 +1,12 @@
 // Document 01's vectors, and further texts: what the lines of standard input ask, it answers a line each. `tests/document_01` has the lines' form.
 #![tactic(auto)]
 
+ghost use Rattle.std.specs.Prelude.{◌≤◌, IfOk, length};
+
 use crate::running::{Asked, question};
 use crate::say::say;
+use std::io;
+use std::io::{Read, Write};
 
 mod line; // a line: numbers, and the text that it holds
 mod say; // what is said
@@ -11,16 +15,17 @@ mod checking; // texts, checked
 mod running; // texts, interpreted
 mod compiling; // texts, compiled, and images, run
 
-fn title(line: &[u8]) {
+fn title(out: &mut impl Write, line: &[u8]) -> io::Result<()> {
     if 0 < line.len() {
-        say(&line[1..]);
+        say(out, &line[1..])?;
     }
-    say(b"\n")
+    say(out, b"\n")
 }
 
 // A run of a text on a block: `i` with the fuel that is asked, `u` with every fuel up to it, `e` and `f` as `i`, and then the text is compiled. The size of the
 // image that is to be run, or 0.
 fn run_kind(
+    out: &mut impl Write,
     kind: u8,
     q: Asked,
     block: &[u8],
@@ -32,8 +37,9 @@ fn run_kind(
     tree: &mut [u32],
     starts: &mut [u32],
     core: &mut [u32],
-) -> usize {
+) -> io::Result<usize> {
     running::run_asked(
+        out,
         kind == b'u',
         q,
         block,
@@ -44,15 +50,16 @@ fn run_kind(
         tree,
         starts,
         core,
-    );
+    )?;
     if is_compiled(kind) {
-        return compiling::image_of(text, image, tokens, tree, starts, core);
+        return compiling::image_of(out, text, image, tokens, tree, starts, core);
     }
-    0
+    Ok(0)
 }
 
 // The same of so many bytes, which are the block's and then the text's.
 fn run_bytes(
+    out: &mut impl Write,
     kind: u8,
     q: Asked,
     n: usize,
@@ -64,10 +71,11 @@ fn run_bytes(
     tree: &mut [u32],
     starts: &mut [u32],
     core: &mut [u32],
-) -> usize {
+) -> io::Result<usize> {
     let size = line::at_most(n as u64, bytes.len());
     let k = line::at_most(q.block, size);
     run_kind(
+        out,
         kind,
         q,
         &bytes[..k],
@@ -86,6 +94,7 @@ fn run_bytes(
 // read, `l` and what is lent and a text, `m` and how many times and a text, `c` and a text that is checked, `o` and one that is compiled. Any other is passed
 // over.
 fn plain_line(
+    out: &mut impl Write,
     line: &[u8],
     text: &mut [u8],
     image: &mut [u8],
@@ -93,17 +102,17 @@ fn plain_line(
     tree: &mut [u32],
     starts: &mut [u32],
     core: &mut [u32],
-) {
+) -> io::Result<()> {
     match line::byte(line, 0) {
-        b'"' => title(line),
-        b'r' => reading::read(line, text, tokens, tree, false),
-        b'w' => reading::read(line, text, tokens, tree, true),
-        b'b' => reading::read_beginnings(line, text, tokens, tree),
-        b'l' => reading::read_with(line, text, tokens, tree),
-        b'm' => reading::read_times(line, text, tokens, tree),
-        b'c' => checking::check_text(line, text, tokens, tree, starts, core),
-        b'o' => compiling::compile_text(line, text, image, tokens, tree, starts, core),
-        _ => (),
+        b'"' => title(out, line),
+        b'r' => reading::read(out, line, text, tokens, tree, false),
+        b'w' => reading::read(out, line, text, tokens, tree, true),
+        b'b' => reading::read_beginnings(out, line, text, tokens, tree),
+        b'l' => reading::read_with(out, line, text, tokens, tree),
+        b'm' => reading::read_times(out, line, text, tokens, tree),
+        b'c' => checking::check_text(out, line, text, tokens, tree, starts, core),
+        b'o' => compiling::compile_text(out, line, text, image, tokens, tree, starts, core),
+        _ => Ok(()),
     }
 }
 
@@ -127,6 +136,7 @@ fn is_run(kind: u8) -> bool {
 
 // A line; the size of the image that is to be run, or 0.
 fn one_line(
+    out: &mut impl Write,
     line: &[u8],
     text: &mut [u8],
     image: &mut [u8],
@@ -136,32 +146,34 @@ fn one_line(
     tree: &mut [u32],
     starts: &mut [u32],
     core: &mut [u32],
-) -> usize {
+) -> io::Result<usize> {
     let kind = line::byte(line, 0);
     if is_run(kind) {
         let q = question(line);
         let n = line::plain(line, q.next, text);
         return run_bytes(
-            kind, q, n, text, image, arrays, log, tokens, tree, starts, core,
+            out, kind, q, n, text, image, arrays, log, tokens, tree, starts, core,
         );
     }
-    plain_line(line, text, image, tokens, tree, starts, core);
-    0
+    plain_line(out, line, text, image, tokens, tree, starts, core)?;
+    Ok(0)
 }
 
 // The same, with working room that is there no longer than this: beside the emulator's memory it would be more than a stack holds.
 fn with_work(
+    out: &mut impl Write,
     line: &[u8],
     text: &mut [u8],
     image: &mut [u8],
     arrays: &mut [u32],
     log: &mut [u32],
-) -> usize {
+) -> io::Result<usize> {
     let mut tokens = token_room();
     let mut tree = tree_room();
     let mut starts = starts_room();
     let mut core = core_room();
     one_line(
+        out,
         line,
         text,
         image,
@@ -176,30 +188,40 @@ fn with_work(
 
 // The image of so many bytes, run as its line asks.
 fn emulate_line(
+    out: &mut impl Write,
     line: &[u8],
     size: usize,
     text: &[u8],
     image: &[u8],
     arrays: &mut [u32],
     log: &mut [u32],
-) {
+) -> io::Result<()> {
     let q = question(line);
     let k = line::at_most(q.block, text.len());
     let m = line::at_most(size as u64, image.len());
     let counted = line::byte(line, 0) == b'f';
-    compiling::emulate_image(q, counted, &image[..m], &text[..k], arrays, log)
+    compiling::emulate_image(out, q, counted, &image[..m], &text[..k], arrays, log)
 }
 
 // A line, and the image that it made.
-fn whole_line(line: &[u8], text: &mut [u8], image: &mut [u8], arrays: &mut [u32], log: &mut [u32]) {
-    let size = with_work(line, text, image, arrays, log);
+fn whole_line(
+    out: &mut impl Write,
+    line: &[u8],
+    text: &mut [u8],
+    image: &mut [u8],
+    arrays: &mut [u32],
+    log: &mut [u32],
+) -> io::Result<()> {
+    let size = with_work(out, line, text, image, arrays, log)?;
     if 0 < size {
-        emulate_line(line, size, text, image, arrays, log);
+        emulate_line(out, line, size, text, image, arrays, log)?;
     }
+    Ok(())
 }
 
 // All lines of a window, the first of which has begun before it; how many bytes of the last are there.
 fn all_lines(
+    out: &mut impl Write,
     window: &[u8],
     line: &mut [u8],
     start: usize,
@@ -207,7 +229,7 @@ fn all_lines(
     image: &mut [u8],
     arrays: &mut [u32],
     log: &mut [u32],
-) -> usize {
+) -> io::Result<usize> {
     let mut i: usize = 0;
     let mut at = start;
     while i < window.len() {
@@ -215,17 +237,18 @@ fn all_lines(
         i += 1;
         if b == b'\n' {
             let n = line::at_most(at as u64, line.len());
-            whole_line(&line[..n], text, image, arrays, log);
+            whole_line(out, &line[..n], text, image, arrays, log)?;
             at = 0;
         } else {
             at = line::put(line, at, b);
         }
     }
-    at
+    Ok(at)
 }
 
 // The lines of a window's first bytes.
 fn some_lines(
+    out: &mut impl Write,
     n: usize,
     window: &[u8],
     line: &mut [u8],
@@ -234,30 +257,48 @@ fn some_lines(
     image: &mut [u8],
     arrays: &mut [u32],
     log: &mut [u32],
-) -> usize {
+) -> io::Result<usize> {
     let size = line::at_most(n as u64, window.len());
-    all_lines(&window[..size], line, start, text, image, arrays, log)
+    all_lines(out, &window[..size], line, start, text, image, arrays, log)
+}
+
+// Read until the window is full or the input ends; how many bytes of it are there.
+fn read_full(input: &mut impl Read, window: &mut [u8]) -> io::Result<usize>
+    ensures { IfOk result (λ n. n ≤ length window.new) }
+{
+    let mut done: usize = 0;
+    while done < window.len() {
+        let n = input.read(&mut window[done..])?;
+        if n == 0 {
+            return Ok(done);
+        }
+        done += n;
+    }
+    Ok(done)
 }
 
 // All of standard input, a window at a time, and not without end.
 fn all_windows(
+    input: &mut impl Read,
+    out: &mut impl Write,
     window: &mut [u8],
     line: &mut [u8],
     text: &mut [u8],
     image: &mut [u8],
     arrays: &mut [u32],
     log: &mut [u32],
-) {
+) -> io::Result<()> {
     let mut at: usize = 0;
     let mut w: usize = 0;
     while w < 4096 {
-        let n = io::read_full(0, window);
+        let n = read_full(input, window)?;
         if n == 0 {
-            return;
+            return Ok(());
         }
-        at = some_lines(n, window, line, at, text, image, arrays, log);
+        at = some_lines(out, n, window, line, at, text, image, arrays, log)?;
         w += 1;
     }
+    Ok(())
 }
 
 // The buffers, each made by a function, so that a proof has its length and not its elements.
@@ -301,7 +342,7 @@ fn core_room() -> [u32; 525315] {
     [0; 525315]
 }
 
-fn main() {
+fn main(rt: HostRuntime) -> io::Result<()> {
     let mut window = window_room();
     let mut line = line_room();
     let mut text = text_room();
@@ -309,6 +350,8 @@ fn main() {
     let mut arrays = arrays_room();
     let mut log = log_room();
     all_windows(
+        &mut rt.stdin(),
+        &mut rt.stdout(),
         &mut window,
         &mut line,
         &mut text,

@@ -2,6 +2,8 @@
 use crate::line;
 use crate::say::{count, fill_words, kept, refusal, say, state, wide, words_kept};
 use interpreter::{Outcome, Ran};
+use std::io;
+use std::io::Write;
 use toolchain::interpret;
 use toolchain::interpret::Interpreted;
 
@@ -36,14 +38,14 @@ pub fn question(line: &[u8]) -> Asked {
     }
 }
 
-fn say_outcome(o: Outcome) {
+fn say_outcome(out: &mut impl Write, o: Outcome) -> io::Result<()> {
     match o {
-        Outcome::Finished => say(b"finished"),
+        Outcome::Finished => say(out, b"finished"),
         Outcome::Trapped(n) => {
-            say(b"trap ");
-            count(wide(n))
+            say(out, b"trap ")?;
+            count(out, wide(n))
         }
-        Outcome::OutOfFuel => say(b"out of fuel"),
+        Outcome::OutOfFuel => say(out, b"out of fuel"),
     }
 }
 
@@ -51,27 +53,42 @@ fn used(fuel: u64, left: u64) -> u64 {
     if left <= fuel { fuel - left } else { 0 }
 }
 
-fn say_run(r: Ran, fuel: u64, arrays: &[u32], elements: usize, log: &[u32]) {
+fn say_run(
+    out: &mut impl Write,
+    r: Ran,
+    fuel: u64,
+    arrays: &[u32],
+    elements: usize,
+    log: &[u32],
+) -> io::Result<()> {
     let o = r.outcome;
-    say_outcome(o);
-    say(b" fuel ");
-    count(used(fuel, r.fuel));
-    state(log, r.logged, arrays, elements)
+    say_outcome(out, o)?;
+    say(out, b" fuel ")?;
+    count(out, used(fuel, r.fuel))?;
+    state(out, log, r.logged, arrays, elements)
 }
 
 // The outcome, then whether all that the call had to keep was kept.
-fn answer(r: Interpreted, fuel: u64, arrays: &[u32], elements: usize, log: &[u32]) {
+fn answer(
+    out: &mut impl Write,
+    r: Interpreted,
+    fuel: u64,
+    arrays: &[u32],
+    elements: usize,
+    log: &[u32],
+) -> io::Result<()> {
     match r {
         Interpreted::Refused(n, at) => {
-            refusal(n, at);
-            kept(words_kept(arrays, 0), words_kept(log, 0))
+            refusal(out, n, at)?;
+            kept(out, words_kept(arrays, 0), words_kept(log, 0))
         }
-        Interpreted::Ran(e) => say_run(e, fuel, arrays, elements, log),
+        Interpreted::Ran(e) => say_run(out, e, fuel, arrays, elements, log),
     }
 }
 
 // A run of a text on a block, with the buffers that are lent.
 fn run_lent(
+    out: &mut impl Write,
     room: usize,
     fuel: u64,
     block: &[u8],
@@ -82,17 +99,18 @@ fn run_lent(
     tree: &mut [u32],
     starts: &mut [u32],
     core: &mut [u32],
-) {
+) -> io::Result<()> {
     fill_words(arrays);
     fill_words(log);
     let r = interpret::interpret(
         text, block, arrays, log, room, fuel, tokens, tree, starts, core,
     );
-    answer(r, fuel, arrays, block.len() / 4, log)
+    answer(out, r, fuel, arrays, block.len() / 4, log)
 }
 
 // The same with as much of each buffer as was asked.
 fn run_text(
+    out: &mut impl Write,
     q: Asked,
     fuel: u64,
     block: &[u8],
@@ -103,7 +121,7 @@ fn run_text(
     tree: &mut [u32],
     starts: &mut [u32],
     core: &mut [u32],
-) {
+) -> io::Result<()> {
     let xs = line::at_most(q.arrays, arrays.len());
     let ls = line::at_most(q.log, log.len());
     let a = line::shortened(tokens.len(), q.short, 1);
@@ -111,6 +129,7 @@ fn run_text(
     let c = line::shortened(starts.len(), q.short, 4);
     let d = line::shortened(core.len(), q.short, 8);
     run_lent(
+        out,
         q.room as usize,
         fuel,
         block,
@@ -126,6 +145,7 @@ fn run_text(
 
 // The same with every fuel from 0 to the one that was asked.
 fn run_fuels(
+    out: &mut impl Write,
     q: Asked,
     block: &[u8],
     text: &[u8],
@@ -135,21 +155,22 @@ fn run_fuels(
     tree: &mut [u32],
     starts: &mut [u32],
     core: &mut [u32],
-) {
+) -> io::Result<()> {
     let mut fuel: u64 = 0;
     while fuel < q.fuel {
         run_text(
-            q, fuel, block, text, arrays, log, tokens, tree, starts, core,
-        );
+            out, q, fuel, block, text, arrays, log, tokens, tree, starts, core,
+        )?;
         fuel += 1;
     }
     run_text(
-        q, fuel, block, text, arrays, log, tokens, tree, starts, core,
+        out, q, fuel, block, text, arrays, log, tokens, tree, starts, core,
     )
 }
 
 // Which of the two.
 pub fn run_asked(
+    out: &mut impl Write,
     every: bool,
     q: Asked,
     block: &[u8],
@@ -160,12 +181,12 @@ pub fn run_asked(
     tree: &mut [u32],
     starts: &mut [u32],
     core: &mut [u32],
-) {
+) -> io::Result<()> {
     if every {
-        run_fuels(q, block, text, arrays, log, tokens, tree, starts, core)
+        run_fuels(out, q, block, text, arrays, log, tokens, tree, starts, core)
     } else {
         run_text(
-            q, q.fuel, block, text, arrays, log, tokens, tree, starts, core,
+            out, q, q.fuel, block, text, arrays, log, tokens, tree, starts, core,
         )
     }
 }

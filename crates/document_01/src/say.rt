@@ -1,7 +1,8 @@
 // What is said, and whether lent buffers are as they were filled.
 ghost use Rattle.std.specs.Prelude.{◌<◌, ◌≤◌, ◌^◌, length};
 
-use libc::STDOUT_FILENO;
+use std::io;
+use std::io::Write;
 
 // What lies in lent buffers before a call.
 const BYTE: u8 = 0xa5;
@@ -11,20 +12,20 @@ const WORD: u32 = 0xa5a5a5a5;
 // So many words of arrays are said one by one.
 const FEW: usize = 16;
 
-pub fn say(text: &[u8]) {
-    io::write_all(STDOUT_FILENO, text);
+pub fn say(out: &mut impl Write, text: &[u8]) -> io::Result<()> {
+    out.write_all(text)
 }
 
-pub fn number(n: usize) {
-    io::print_decimal(STDOUT_FILENO, n as u64);
+pub fn number(out: &mut impl Write, n: usize) -> io::Result<()> {
+    write!(out, "{n}")
 }
 
-pub fn count(n: u64) {
-    io::print_decimal(STDOUT_FILENO, n);
+pub fn count(out: &mut impl Write, n: u64) -> io::Result<()> {
+    write!(out, "{n}")
 }
 
-pub fn hex(n: u64, width: usize) {
-    io::print_hex(STDOUT_FILENO, n, width);
+pub fn hex(out: &mut impl Write, n: u64, width: usize) -> io::Result<()> {
+    write!(out, "{n:0width$x}")
 }
 
 pub fn wide(n: u32) -> u64
@@ -50,34 +51,35 @@ pub fn sum(words: &[u32], count: usize) -> u64 {
     s
 }
 
-pub fn say_words(words: &[u32], count: usize) {
+pub fn say_words(out: &mut impl Write, words: &[u32], count: usize) -> io::Result<()> {
     let mut i: usize = 0;
     while i < count {
         if i < words.len() {
-            say(b" ");
-            hex(wide(words[i]), 1);
+            say(out, b" ")?;
+            hex(out, wide(words[i]), 1)?;
         }
         i += 1;
     }
+    Ok(())
 }
 
 // Words of arrays: one by one, or how many there are and their sum.
-fn say_arrays(words: &[u32], count: usize) {
+fn say_arrays(out: &mut impl Write, words: &[u32], count: usize) -> io::Result<()> {
     if count <= FEW {
-        return say_words(words, count);
+        return say_words(out, words, count);
     }
-    say(b" ");
-    number(count);
-    say(b" sum ");
-    hex(sum(words, count), 8);
+    say(out, b" ")?;
+    number(out, count)?;
+    say(out, b" sum ")?;
+    hex(out, sum(words, count), 8)
 }
 
 // An answer of document 01 §1 or document 03 §5, and its place.
-pub fn refusal(n: u32, at: usize) {
-    say(b"answer ");
-    count(wide(n));
-    say(b" at ");
-    number(at);
+pub fn refusal(out: &mut impl Write, n: u32, at: usize) -> io::Result<()> {
+    say(out, b"answer ")?;
+    count(out, wide(n))?;
+    say(out, b" at ")?;
+    number(out, at)
 }
 
 pub fn fill_bytes(b: &mut [u8]) {
@@ -119,21 +121,26 @@ pub fn words_kept(b: &[u32], from: usize) -> bool {
     true
 }
 
-pub fn kept(a: bool, b: bool) {
+pub fn kept(out: &mut impl Write, a: bool, b: bool) -> io::Result<()> {
     if a {
         if b {
-            say(b" kept\n");
-            return;
+            return say(out, b" kept\n");
         }
     }
-    say(b" CHANGED\n");
+    say(out, b" CHANGED\n")
 }
 
 // The log and the words of the arrays, and whether what lies beyond them is as it was.
-pub fn state(log: &[u32], logged: usize, arrays: &[u32], elements: usize) {
-    say(b" log");
-    say_words(log, logged);
-    say(b" arrays");
-    say_arrays(arrays, elements);
-    kept(words_kept(log, logged), words_kept(arrays, elements))
+pub fn state(
+    out: &mut impl Write,
+    log: &[u32],
+    logged: usize,
+    arrays: &[u32],
+    elements: usize,
+) -> io::Result<()> {
+    say(out, b" log")?;
+    say_words(out, log, logged)?;
+    say(out, b" arrays")?;
+    say_arrays(out, arrays, elements)?;
+    kept(out, words_kept(log, logged), words_kept(arrays, elements))
 }

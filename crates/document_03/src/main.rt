@@ -1,11 +1,12 @@
 // Document 03's vectors, and further runs: what the lines of standard input ask, it answers a line each. `tests/document_03` has the lines' form.
 #![tactic(auto)]
 
-ghost use Rattle.std.specs.Prelude.{◌<◌, ◌≤◌, ◌^◌, ◌≡◌, length};
+ghost use Rattle.std.specs.Prelude.{◌<◌, ◌≤◌, ◌^◌, ◌≡◌, IfOk, length};
 
 use emulator::run::Ended;
-use libc::STDOUT_FILENO;
 use processor::Status;
+use std::io;
+use std::io::{Read, Write};
 use toolchain::Outcome;
 
 mod line; // numbers of a line, and the bytes that they stand for
@@ -16,16 +17,16 @@ const BYTE: u8 = 0xa5;
 
 const WORD: u32 = 0xa5a5a5a5;
 
-fn say(text: &[u8]) {
-    io::write_all(STDOUT_FILENO, text);
+fn say(out: &mut impl Write, text: &[u8]) -> io::Result<()> {
+    out.write_all(text)
 }
 
-fn number(n: u64) {
-    io::print_decimal(STDOUT_FILENO, n);
+fn number(out: &mut impl Write, n: u64) -> io::Result<()> {
+    write!(out, "{n}")
 }
 
-fn hex(n: u64, width: usize) {
-    io::print_hex(STDOUT_FILENO, n, width);
+fn hex(out: &mut impl Write, n: u64, width: usize) -> io::Result<()> {
+    write!(out, "{n:0width$x}")
 }
 
 fn wide(n: u32) -> u64 {
@@ -71,58 +72,66 @@ fn words_kept(b: &[u32], from: usize) -> bool {
     true
 }
 
-fn kept(a: bool, b: bool, c: bool) {
+fn kept(out: &mut impl Write, a: bool, b: bool, c: bool) -> io::Result<()> {
     if a {
         if b {
             if c {
-                say(b" kept\n");
-                return;
+                return say(out, b" kept\n");
             }
         }
     }
-    say(b" CHANGED\n");
+    say(out, b" CHANGED\n")
 }
 
-fn say_status(s: Status) {
+fn say_status(out: &mut impl Write, s: Status) -> io::Result<()> {
     match s {
-        Status::Going => say(b"going"),
-        Status::Exit => say(b"exit"),
+        Status::Going => say(out, b"going"),
+        Status::Exit => say(out, b"exit"),
         Status::Trap(t) => {
-            say(b"trap ");
-            number(t as u64)
+            say(out, b"trap ")?;
+            number(out, t as u64)
         }
         Status::Fault(n) => {
-            say(b"fault ");
-            number(n as u64)
+            say(out, b"fault ")?;
+            number(out, n as u64)
         }
-        Status::Limit => say(b"limit"),
+        Status::Limit => say(out, b"limit"),
     }
 }
 
-fn say_log(log: &[u32], logged: usize) {
+fn say_log(out: &mut impl Write, log: &[u32], logged: usize) -> io::Result<()> {
     let mut i: usize = 0;
     while i < logged {
         if i < log.len() {
-            say(b" ");
-            hex(wide(log[i]), 8);
+            say(out, b" ")?;
+            hex(out, wide(log[i]), 8)?;
         }
         i += 1;
     }
+    Ok(())
 }
 
-fn say_x10(registers: &[u32]) {
+fn say_x10(out: &mut impl Write, registers: &[u32]) -> io::Result<()> {
     if 10 < registers.len() {
-        hex(wide(registers[10]), 1);
+        hex(out, wide(registers[10]), 1)?;
     }
+    Ok(())
 }
 
 // The outcome, then whether all that the call had to keep was kept.
-fn answer(o: Outcome, memory: &[u8], registers: &[u32], log: &[u32]) {
+fn answer(
+    out: &mut impl Write,
+    o: Outcome,
+    memory: &[u8],
+    registers: &[u32],
+    log: &[u32],
+) -> io::Result<()> {
     match o {
         Outcome::Refused(n) => {
-            say(b"refused ");
-            number(n as u64);
+            say(out, b"refused ")?;
+            number(out, n as u64)?;
             kept(
+                out,
                 bytes_kept(memory, 0),
                 words_kept(registers, 0),
                 words_kept(log, 0),
@@ -132,16 +141,17 @@ fn answer(o: Outcome, memory: &[u8], registers: &[u32], log: &[u32]) {
             let status = e.status;
             let pc = e.pc;
             let logged = e.logged;
-            say_status(status);
-            say(b" steps ");
-            number(e.steps);
-            say(b" pc ");
-            hex(wide(pc), 1);
-            say(b" x10 ");
-            say_x10(registers);
-            say(b" log");
-            say_log(log, logged);
+            say_status(out, status)?;
+            say(out, b" steps ")?;
+            number(out, e.steps)?;
+            say(out, b" pc ")?;
+            hex(out, wide(pc), 1)?;
+            say(out, b" x10 ")?;
+            say_x10(out, registers)?;
+            say(out, b" log")?;
+            say_log(out, log, logged)?;
             kept(
+                out,
                 bytes_kept(memory, 0x200000),
                 words_kept(registers, 32),
                 words_kept(log, logged),
@@ -151,16 +161,16 @@ fn answer(o: Outcome, memory: &[u8], registers: &[u32], log: &[u32]) {
 }
 
 // A word, decoded, and the word of that.
-fn word_line(text: &[u8], from: usize) {
+fn word_line(out: &mut impl Write, text: &[u8], from: usize) -> io::Result<()> {
     let n = line::number(text, from);
     let w = line::low(n.value);
-    hex(wide(w), 8);
-    say(b" ");
+    hex(out, wide(w), 8)?;
+    say(out, b" ")?;
     let i = processor::decode(w);
-    words::say_instr(i);
-    say(b" ");
-    hex(wide(processor::encode(i)), 8);
-    say(b"\n")
+    words::say_instr(out, i)?;
+    say(out, b" ")?;
+    hex(out, wide(processor::encode(i)), 8)?;
+    say(out, b"\n")
 }
 
 fn put_x0(registers: &mut [u32], x0: u32) {
@@ -186,6 +196,7 @@ fn go_on(
 
 // The run gone on with: how many times, then for each what stands in x0's place and the limit.
 fn resume_all(
+    out: &mut impl Write,
     text: &[u8],
     from: usize,
     size: usize,
@@ -194,7 +205,7 @@ fn resume_all(
     registers: &mut [u32],
     log: &mut [u32],
     room: usize,
-) {
+) -> io::Result<()> {
     let n = line::number(text, from);
     let mut next = n.next;
     let mut e = ended;
@@ -214,18 +225,20 @@ fn resume_all(
             limit.value,
         );
         match o {
-            Outcome::Refused(_) => say(b"not gone on with\n"),
+            Outcome::Refused(_) => say(out, b"not gone on with\n")?,
             Outcome::Ran(r) => {
-                answer(o, memory, registers, log);
+                answer(out, o, memory, registers, log)?;
                 e = r;
             }
         }
         i += 1;
     }
+    Ok(())
 }
 
 // A run, with the buffers filled first.
 fn run_case(
+    out: &mut impl Write,
     text: &[u8],
     from: usize,
     code: &[u8],
@@ -235,20 +248,21 @@ fn run_case(
     log: &mut [u32],
     room: usize,
     limit: u64,
-) {
+) -> io::Result<()> {
     fill_bytes(memory);
     fill_words(registers);
     fill_words(log);
     let o = toolchain::emulate(code, input, memory, registers, log, room, limit);
-    answer(o, memory, registers, log);
+    answer(out, o, memory, registers, log)?;
     match o {
-        Outcome::Refused(_) => (),
-        Outcome::Ran(e) => resume_all(text, from, code.len(), e, memory, registers, log, room),
+        Outcome::Refused(_) => Ok(()),
+        Outcome::Ran(e) => resume_all(out, text, from, code.len(), e, memory, registers, log, room),
     }
 }
 
 // Room, limit, the sizes of what is lent, code and input block in bytes; then the words of code and input block; then how it goes on.
 fn run_line(
+    out: &mut impl Write,
     text: &[u8],
     from: usize,
     code: &mut [u8],
@@ -256,7 +270,7 @@ fn run_line(
     memory: &mut [u8],
     registers: &mut [u32],
     log: &mut [u32],
-) {
+) -> io::Result<()> {
     let room = line::number(text, from);
     let limit = line::number(text, room.next);
     let m = line::number(text, limit.next);
@@ -272,6 +286,7 @@ fn run_line(
     let cs = line::at_most(c.value, code.len());
     let is = line::at_most(i.value, input.len());
     run_case(
+        out,
         text,
         after_input,
         &code[..cs],
@@ -286,6 +301,7 @@ fn run_line(
 
 // A line: `"` and a title, `d` and a word, `r` and a run. Any other is passed over.
 fn one_line(
+    out: &mut impl Write,
     text: &[u8],
     i: usize,
     end: usize,
@@ -294,42 +310,44 @@ fn one_line(
     memory: &mut [u8],
     registers: &mut [u32],
     log: &mut [u32],
-)
+) -> io::Result<()>
     requires { i < 2 ^ 63 }
 {
     let start = i + 1;
     match line::byte(text, i) {
-        b'"' => title(text, start, end),
-        b'd' => word_line(text, start),
-        b'r' => run_line(text, start, code, input, memory, registers, log),
-        _ => (),
+        b'"' => title(out, text, start, end),
+        b'd' => word_line(out, text, start),
+        b'r' => run_line(out, text, start, code, input, memory, registers, log),
+        _ => Ok(()),
     }
 }
 
 // All lines, one after the other.
 fn all_lines(
+    out: &mut impl Write,
     text: &[u8],
     code: &mut [u8],
     input: &mut [u8],
     memory: &mut [u8],
     registers: &mut [u32],
     log: &mut [u32],
-) {
+) -> io::Result<()> {
     let mut i: usize = 0;
     while i < text.len() {
         let end = line::line_end(text, i);
-        one_line(text, i, end, code, input, memory, registers, log);
+        one_line(out, text, i, end, code, input, memory, registers, log)?;
         i = past(i, end);
     }
+    Ok(())
 }
 
-fn title(text: &[u8], from: usize, end: usize) {
+fn title(out: &mut impl Write, text: &[u8], from: usize, end: usize) -> io::Result<()> {
     if from <= end {
         if end <= text.len() {
-            say(&text[from..end]);
+            say(out, &text[from..end])?;
         }
     }
-    say(b"\n")
+    say(out, b"\n")
 }
 
 // Past the line's end, and past i.
@@ -362,15 +380,31 @@ fn memory_room() -> [u8; 2097216] {
     [0; 2097216]
 }
 
-fn main() {
+// Read until the text's room is full or the input ends; how many bytes of it are there.
+fn read_full(input: &mut impl Read, text: &mut [u8]) -> io::Result<usize>
+    ensures { IfOk result (λ n. n ≤ length text.new) }
+{
+    let mut done: usize = 0;
+    while done < text.len() {
+        let n = input.read(&mut text[done..])?;
+        if n == 0 {
+            return Ok(done);
+        }
+        done += n;
+    }
+    Ok(done)
+}
+
+fn main(rt: HostRuntime) -> io::Result<()> {
     let mut text = text_room();
     let mut code = code_room();
     let mut input = input_room();
     let mut memory = memory_room();
     let mut registers = [0u32; 40];
     let mut log = [0u32; 64];
-    let n = io::read_full(0, &mut text);
+    let n = read_full(&mut rt.stdin(), &mut text)?;
     all_lines(
+        &mut rt.stdout(),
         &text[..n],
         &mut code,
         &mut input,

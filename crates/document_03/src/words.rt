@@ -1,105 +1,106 @@
 // An instruction by name: its fields in hex, immediates as words.
-use libc::STDOUT_FILENO;
 use processor::{Alu, Cond, Instr, Width};
+use std::io;
+use std::io::Write;
 
-fn field(n: u32) {
-    io::write_all(STDOUT_FILENO, b" ");
-    io::print_hex(STDOUT_FILENO, n as u64, 1);
+fn field(out: &mut impl Write, n: u32) -> io::Result<()> {
+    out.write_all(b" ")?;
+    write!(out, "{n:x}")
 }
 
-fn three(text: &[u8], a: u32, b: u32, c: u32) {
-    io::write_all(STDOUT_FILENO, text);
-    field(a);
-    field(b);
-    field(c)
+fn three(out: &mut impl Write, text: &[u8], a: u32, b: u32, c: u32) -> io::Result<()> {
+    out.write_all(text)?;
+    field(out, a)?;
+    field(out, b)?;
+    field(out, c)
 }
 
-fn two(text: &[u8], a: u32, b: u32) {
-    io::write_all(STDOUT_FILENO, text);
-    field(a);
-    field(b)
+fn two(out: &mut impl Write, text: &[u8], a: u32, b: u32) -> io::Result<()> {
+    out.write_all(text)?;
+    field(out, a)?;
+    field(out, b)
 }
 
-fn say_alu(o: Alu) {
+fn say_alu(out: &mut impl Write, o: Alu) -> io::Result<()> {
     match o {
-        Alu::Add => io::write_all(STDOUT_FILENO, b"add"),
-        Alu::Sub => io::write_all(STDOUT_FILENO, b"sub"),
-        Alu::Sll => io::write_all(STDOUT_FILENO, b"sll"),
-        Alu::Slt => io::write_all(STDOUT_FILENO, b"slt"),
-        Alu::Sltu => io::write_all(STDOUT_FILENO, b"sltu"),
-        Alu::Xor => io::write_all(STDOUT_FILENO, b"xor"),
-        Alu::Srl => io::write_all(STDOUT_FILENO, b"srl"),
-        Alu::Sra => io::write_all(STDOUT_FILENO, b"sra"),
-        Alu::Or => io::write_all(STDOUT_FILENO, b"or"),
-        Alu::And => io::write_all(STDOUT_FILENO, b"and"),
-        Alu::Mul => io::write_all(STDOUT_FILENO, b"mul"),
-        Alu::Mulh => io::write_all(STDOUT_FILENO, b"mulh"),
-        Alu::Mulhsu => io::write_all(STDOUT_FILENO, b"mulhsu"),
-        Alu::Mulhu => io::write_all(STDOUT_FILENO, b"mulhu"),
-        Alu::Div => io::write_all(STDOUT_FILENO, b"div"),
-        Alu::Divu => io::write_all(STDOUT_FILENO, b"divu"),
-        Alu::Rem => io::write_all(STDOUT_FILENO, b"rem"),
-        Alu::Remu => io::write_all(STDOUT_FILENO, b"remu"),
-    };
+        Alu::Add => out.write_all(b"add"),
+        Alu::Sub => out.write_all(b"sub"),
+        Alu::Sll => out.write_all(b"sll"),
+        Alu::Slt => out.write_all(b"slt"),
+        Alu::Sltu => out.write_all(b"sltu"),
+        Alu::Xor => out.write_all(b"xor"),
+        Alu::Srl => out.write_all(b"srl"),
+        Alu::Sra => out.write_all(b"sra"),
+        Alu::Or => out.write_all(b"or"),
+        Alu::And => out.write_all(b"and"),
+        Alu::Mul => out.write_all(b"mul"),
+        Alu::Mulh => out.write_all(b"mulh"),
+        Alu::Mulhsu => out.write_all(b"mulhsu"),
+        Alu::Mulhu => out.write_all(b"mulhu"),
+        Alu::Div => out.write_all(b"div"),
+        Alu::Divu => out.write_all(b"divu"),
+        Alu::Rem => out.write_all(b"rem"),
+        Alu::Remu => out.write_all(b"remu"),
+    }
 }
 
-fn say_cond(c: Cond) {
+fn say_cond(out: &mut impl Write, c: Cond) -> io::Result<()> {
     match c {
-        Cond::Eq => io::write_all(STDOUT_FILENO, b"beq"),
-        Cond::Ne => io::write_all(STDOUT_FILENO, b"bne"),
-        Cond::Lt => io::write_all(STDOUT_FILENO, b"blt"),
-        Cond::Ge => io::write_all(STDOUT_FILENO, b"bge"),
-        Cond::Ltu => io::write_all(STDOUT_FILENO, b"bltu"),
-        Cond::Geu => io::write_all(STDOUT_FILENO, b"bgeu"),
-    };
+        Cond::Eq => out.write_all(b"beq"),
+        Cond::Ne => out.write_all(b"bne"),
+        Cond::Lt => out.write_all(b"blt"),
+        Cond::Ge => out.write_all(b"bge"),
+        Cond::Ltu => out.write_all(b"bltu"),
+        Cond::Geu => out.write_all(b"bgeu"),
+    }
 }
 
-fn say_width(s: Width) {
+fn say_width(out: &mut impl Write, s: Width) -> io::Result<()> {
     match s {
-        Width::Byte => io::write_all(STDOUT_FILENO, b"b"),
-        Width::Half => io::write_all(STDOUT_FILENO, b"h"),
-        Width::Word => io::write_all(STDOUT_FILENO, b"w"),
-        Width::ByteU => io::write_all(STDOUT_FILENO, b"bu"),
-        Width::HalfU => io::write_all(STDOUT_FILENO, b"hu"),
-    };
+        Width::Byte => out.write_all(b"b"),
+        Width::Half => out.write_all(b"h"),
+        Width::Word => out.write_all(b"w"),
+        Width::ByteU => out.write_all(b"bu"),
+        Width::HalfU => out.write_all(b"hu"),
+    }
 }
 
 // The instruction, fields in the order rd, rs1, rs2, immediate.
-pub fn say_instr(i: Instr) {
+pub fn say_instr(out: &mut impl Write, i: Instr) -> io::Result<()> {
     match i {
-        Instr::Lui(d, imm) => two(b"lui", d, imm),
-        Instr::Auipc(d, imm) => two(b"auipc", d, imm),
-        Instr::Jal(d, imm) => two(b"jal", d, imm),
-        Instr::Jalr(d, a, imm) => three(b"jalr", d, a, imm),
+        Instr::Lui(d, imm) => two(out, b"lui", d, imm),
+        Instr::Auipc(d, imm) => two(out, b"auipc", d, imm),
+        Instr::Jal(d, imm) => two(out, b"jal", d, imm),
+        Instr::Jalr(d, a, imm) => three(out, b"jalr", d, a, imm),
         Instr::Branch(c, a, b, imm) => {
-            say_cond(c);
-            three(b"", a, b, imm)
+            say_cond(out, c)?;
+            three(out, b"", a, b, imm)
         }
         Instr::Load(s, d, a, imm) => {
-            io::write_all(STDOUT_FILENO, b"l");
-            say_width(s);
-            three(b"", d, a, imm)
+            out.write_all(b"l")?;
+            say_width(out, s)?;
+            three(out, b"", d, a, imm)
         }
         Instr::Store(s, a, b, imm) => {
-            io::write_all(STDOUT_FILENO, b"s");
-            say_width(s);
-            three(b"", a, b, imm)
+            out.write_all(b"s")?;
+            say_width(out, s)?;
+            three(out, b"", a, b, imm)
         }
         Instr::OpImm(o, d, a, imm) => {
-            say_alu(o);
-            three(b"i", d, a, imm)
+            say_alu(out, o)?;
+            three(out, b"i", d, a, imm)
         }
         Instr::Shift(o, d, a, b) => {
-            say_alu(o);
-            three(b"i", d, a, b)
+            say_alu(out, o)?;
+            three(out, b"i", d, a, b)
         }
         Instr::Op(o, d, a, b) => {
-            say_alu(o);
-            three(b"", d, a, b)
+            say_alu(out, o)?;
+            three(out, b"", d, a, b)
         }
-        Instr::Fence(d, a, imm) => three(b"fence", d, a, imm),
-        Instr::Ecall => two(b"ecall", 0, 0),
-        Instr::Ebreak => two(b"ebreak", 0, 0),
-        Instr::Unknown => two(b"unknown", 0, 0),
+        Instr::Fence(d, a, imm) => three(out, b"fence", d, a, imm),
+        Instr::Ecall => two(out, b"ecall", 0, 0),
+        Instr::Ebreak => two(out, b"ebreak", 0, 0),
+        Instr::Unknown => two(out, b"unknown", 0, 0),
     }
 }

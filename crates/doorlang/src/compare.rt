@@ -60,36 +60,37 @@ fn agrees(
 }
 
 // Whether it could be written that they agree, or that they do not.
-fn agree_line(agree: bool) -> bool {
+fn agree_line(rt: &HostRuntime, agree: bool) -> bool {
     if agree {
-        say(b"agree: yes\n")
+        say(rt, b"agree: yes\n")
     } else {
-        say(b"agree: no\n")
+        say(rt, b"agree: no\n")
     }
 }
 
 // What the image did, beside a run with this outcome: where the fuel ended first, they are compared as far as the run came.
-fn tell_agreement(given: &[usize], o: Outcome, agree: bool) {
-    about(arguments::given_for(given, arguments::FIRST));
+fn tell_agreement(rt: &HostRuntime, given: &[usize], o: Outcome, agree: bool) {
+    about(rt, arguments::given_for(given, arguments::FIRST));
     if !agree {
-        tell(b"the image does something else\n");
+        tell(rt, b"the image does something else\n");
         return;
     }
     match o {
         Outcome::OutOfFuel => {
-            tell(b"as far as the fuel went, the image logs the same\n");
+            tell(rt, b"as far as the fuel went, the image logs the same\n");
         }
         Outcome::Finished => {
-            tell(b"the image does the same\n");
+            tell(rt, b"the image does the same\n");
         }
         Outcome::Trapped(_) => {
-            tell(b"the image does the same\n");
+            tell(rt, b"the image does the same\n");
         }
     }
 }
 
 // The lines of both runs; `size` is that of the input block.
 fn show(
+    rt: &HostRuntime,
     given: &[usize],
     r: Ran,
     fuel: u64,
@@ -102,27 +103,28 @@ fn show(
 ) -> u32 {
     let s = e.status;
     let logged = e.logged;
-    run::lines(r, fuel, size, arrays, log);
-    exec::stop_line(b"image-stop:", s);
-    output::line(b"image-steps: ", e.steps);
-    output::log_line(b"image-log:", image_log, logged);
-    output::arrays_line(b"image-arrays:", memory, size / 4);
+    run::lines(rt, r, fuel, size, arrays, log);
+    exec::stop_line(rt, b"image-stop:", s);
+    output::line(rt, b"image-steps: ", e.steps);
+    output::log_line(rt, b"image-log:", image_log, logged);
+    output::arrays_line(rt, b"image-arrays:", memory, size / 4);
     let agree = agrees(r, arrays, log, e, memory, image_log, size);
-    if agree_line(agree) {
+    if agree_line(rt, agree) {
         let o = r.outcome;
-        run::tell_outcome(given, o);
-        tell_agreement(given, o, agree);
+        run::tell_outcome(rt, given, o);
+        tell_agreement(rt, given, o, agree);
         return if agree {
             run::status_of(o)
         } else {
             output::STOPPED
         };
     }
-    output::unwritten()
+    output::unwritten(rt)
 }
 
 // The image's run, after that of its text.
 fn emulate(
+    rt: &HostRuntime,
     given: &[usize],
     image: &[u8],
     input: &[u8],
@@ -145,8 +147,9 @@ fn emulate(
         limit_for(run::used(fuel, r.fuel)),
     );
     match o {
-        toolchain::Outcome::Refused(n) => exec::refused(given, n),
+        toolchain::Outcome::Refused(n) => exec::refused(rt, given, n),
         toolchain::Outcome::Ran(e) => show(
+            rt,
             given,
             r,
             fuel,
@@ -162,6 +165,7 @@ fn emulate(
 
 // The text's run, then its image's.
 fn interpret(
+    rt: &HostRuntime,
     given: &[usize],
     text: &[u8],
     image: &[u8],
@@ -178,42 +182,50 @@ fn interpret(
     let said = a.said;
     let n = a.size;
     match said {
-        Interpreted::Refused(number, offset) => texts::refused(given, text, number, offset, n),
-        Interpreted::Ran(r) => emulate(given, image, &block[..n], room, fuel, r, &arrays, &log),
+        Interpreted::Refused(number, offset) => texts::refused(rt, given, text, number, offset, n),
+        Interpreted::Ran(r) => emulate(rt, given, image, &block[..n], room, fuel, r, &arrays, &log),
     }
 }
 
 // The image, then both runs.
-fn go(given: &[usize], text: &[u8], block: &[u8], size: usize, room: usize, fuel: u64) -> u32
+fn go(
+    rt: &HostRuntime,
+    given: &[usize],
+    text: &[u8],
+    block: &[u8],
+    size: usize,
+    room: usize,
+    fuel: u64,
+) -> u32
     requires { size ≤ length block.now }
 {
     let mut image = rooms::image_room();
     let c = build::image_of(text, &mut image);
     match c {
-        Compiled::Refused(number, offset) => texts::refused(given, text, number, offset, 0),
+        Compiled::Refused(number, offset) => texts::refused(rt, given, text, number, offset, 0),
         Compiled::Image(n) => {
             let k = texts::at_most(n, image.len());
-            interpret(given, text, &image[..k], block, size, room, fuel)
+            interpret(rt, given, text, &image[..k], block, size, room, fuel)
         }
     }
 }
 
 // The text and the input block, read; then the comparison.
-fn load(given: &[usize], room: usize, fuel: u64) -> u32 {
+fn load(rt: &HostRuntime, given: &[usize], room: usize, fuel: u64) -> u32 {
     let mut text = rooms::text_room();
     let mut block = rooms::block_room();
-    let r = files::read_both(given, &mut text, &mut block);
+    let r = files::read_both(rt, given, &mut text, &mut block);
     if r.failed {
         return output::BAD_USAGE;
     }
     let n = r.first;
-    go(given, &text[..n], &block, r.block, room, fuel)
+    go(rt, given, &text[..n], &block, r.block, room, fuel)
 }
 
-pub fn compare(given: &[usize]) -> u32 {
-    let v = values::values_of(given, arguments::FUEL, values::FUEL);
+pub fn compare(rt: &HostRuntime, given: &[usize]) -> u32 {
+    let v = values::values_of(rt, given, arguments::FUEL, values::FUEL);
     if v.failed {
         return output::BAD_USAGE;
     }
-    load(given, v.room, v.most)
+    load(rt, given, v.room, v.most)
 }

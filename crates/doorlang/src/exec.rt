@@ -7,70 +7,86 @@ use processor::Status;
 use toolchain::Outcome;
 
 // How a run stopped.
-pub fn stop_line(key: &[u8], s: Status) {
-    say(key);
+pub fn stop_line(rt: &HostRuntime, key: &[u8], s: Status) {
+    say(rt, key);
     match s {
-        Status::Going => say(b" going"),
-        Status::Exit => say(b" exit"),
+        Status::Going => say(rt, b" going"),
+        Status::Exit => say(rt, b" exit"),
         Status::Trap(t) => {
-            say(b" trap ");
-            output::say_number(t as u64)
+            say(rt, b" trap ");
+            output::say_number(rt, t as u64)
         }
         Status::Fault(n) => {
-            say(b" fault ");
-            output::say_number(n as u64)
+            say(rt, b" fault ");
+            output::say_number(rt, n as u64)
         }
-        Status::Limit => say(b" limit"),
+        Status::Limit => say(rt, b" limit"),
     };
-    say(b"\n");
+    say(rt, b"\n");
 }
 
 // What a trap of a rule program means (document 01 §5).
-pub fn tell_trap(t: u32) {
+pub fn tell_trap(rt: &HostRuntime, t: u32) {
     match t {
-        1 => tell(b"trap 1: division or remainder by zero\n"),
-        2 => tell(b"trap 2: an index is below 0 or not below the array's size\n"),
-        3 => tell(b"trap 3: a call would make more than 64 activations at once\n"),
-        4 => tell(b"trap 4: the log is full\n"),
-        _ => tell(b"a trap of its own\n"),
+        1 => tell(rt, b"trap 1: division or remainder by zero\n"),
+        2 => tell(
+            rt,
+            b"trap 2: an index is below 0 or not below the array's size\n",
+        ),
+        3 => tell(
+            rt,
+            b"trap 3: a call would make more than 64 activations at once\n",
+        ),
+        4 => tell(rt, b"trap 4: the log is full\n"),
+        _ => tell(rt, b"a trap of its own\n"),
     };
 }
 
 // What a fault means (document 03 §4).
-fn tell_fault(n: u32) {
+fn tell_fault(rt: &HostRuntime, n: u32) {
     match n {
         1 => tell(
+            rt,
             b"fault 1: the next instruction is not within the code, or not at a multiple of 4\n",
         ),
-        2 => tell(b"fault 2: an unknown instruction\n"),
-        3 => tell(b"fault 3: a load or store is not aligned, or lies outside the data\n"),
-        4 => tell(b"fault 4: ebreak\n"),
-        _ => tell(b"fault 5: a call to the panel that there is not\n"),
+        2 => tell(rt, b"fault 2: an unknown instruction\n"),
+        3 => tell(
+            rt,
+            b"fault 3: a load or store is not aligned, or lies outside the data\n",
+        ),
+        4 => tell(rt, b"fault 4: ebreak\n"),
+        _ => tell(rt, b"fault 5: a call to the panel that there is not\n"),
     };
 }
 
-fn tell_stop(s: Status) {
+fn tell_stop(rt: &HostRuntime, s: Status) {
     match s {
         Status::Going => {
-            tell(b"the run goes on\n");
+            tell(rt, b"the run goes on\n");
         }
         Status::Exit => {
-            tell(b"the run ended by exit\n");
+            tell(rt, b"the run ended by exit\n");
         }
-        Status::Trap(t) => tell_trap(t),
-        Status::Fault(n) => tell_fault(n),
+        Status::Trap(t) => tell_trap(rt, t),
+        Status::Fault(n) => tell_fault(rt, n),
         Status::Limit => {
-            tell(b"the run was stopped at its limit of steps\n");
+            tell(rt, b"the run was stopped at its limit of steps\n");
         }
     }
 }
 
 // What a refusal of a run means (document 03 §5).
-fn tell_refusal(n: u32) {
+fn tell_refusal(rt: &HostRuntime, n: u32) {
     match n {
-        4 => tell(b"the code is not whole words, or is longer than 524288 bytes\n"),
-        5 => tell(b"the input block is not whole words, or is longer than 1048576 bytes\n"),
-        _ => tell(b"the memory or the log is shorter than stated\n"),
+        4 => tell(
+            rt,
+            b"the code is not whole words, or is longer than 524288 bytes\n",
+        ),
+        5 => tell(
+            rt,
+            b"the input block is not whole words, or is longer than 1048576 bytes\n",
+        ),
+        _ => tell(rt, b"the memory or the log is shorter than stated\n"),
     };
 }
 
@@ -86,6 +102,7 @@ fn status_of(s: Status) -> u32 {
 
 // The lines of a run that ended; `size` is that of the input block.
 fn show(
+    rt: &HostRuntime,
     given: &[usize],
     e: Ended,
     size: usize,
@@ -95,22 +112,23 @@ fn show(
 ) -> u32 {
     let s = e.status;
     let logged = e.logged;
-    output::line(b"answer: ", 0);
-    stop_line(b"stop:", s);
-    output::line(b"steps: ", e.steps);
-    output::pc_line(b"pc:", e.pc);
-    output::log_line(b"log:", log, logged);
-    output::arrays_line(b"arrays:", memory, size / 4);
-    if output::registers_line(b"registers:", registers) {
-        about(arguments::given_for(given, arguments::FIRST));
-        tell_stop(s);
+    output::line(rt, b"answer: ", 0);
+    stop_line(rt, b"stop:", s);
+    output::line(rt, b"steps: ", e.steps);
+    output::pc_line(rt, b"pc:", e.pc);
+    output::log_line(rt, b"log:", log, logged);
+    output::arrays_line(rt, b"arrays:", memory, size / 4);
+    if output::registers_line(rt, b"registers:", registers) {
+        about(rt, arguments::given_for(given, arguments::FIRST));
+        tell_stop(rt, s);
         return status_of(s);
     }
-    output::unwritten()
+    output::unwritten(rt)
 }
 
 // The memory after the run, where --memory asks for it, then the lines.
 fn ran(
+    rt: &HostRuntime,
     given: &[usize],
     e: Ended,
     size: usize,
@@ -120,11 +138,11 @@ fn ran(
 ) -> u32 {
     let i = arguments::given_for(given, arguments::MEMORY);
     if i != 0 {
-        if !files::write_file(i, memory) {
+        if !files::write_file(rt, i, memory) {
             return output::BAD_USAGE;
         }
     }
-    show(given, e, size, memory, registers, log)
+    show(rt, given, e, size, memory, registers, log)
 }
 
 // The argument that names what a refusal is about: the input block, or the image.
@@ -135,16 +153,23 @@ fn refused_argument(given: &[usize], n: u32) -> usize {
     arguments::given_for(given, arguments::FIRST)
 }
 
-pub fn refused(given: &[usize], n: u32) -> u32 {
-    if !output::line(b"answer: ", n as u64) {
-        return output::unwritten();
+pub fn refused(rt: &HostRuntime, given: &[usize], n: u32) -> u32 {
+    if !output::line(rt, b"answer: ", n as u64) {
+        return output::unwritten(rt);
     }
-    about(refused_argument(given, n));
-    tell_refusal(n);
+    about(rt, refused_argument(given, n));
+    tell_refusal(rt, n);
     output::REFUSED
 }
 
-fn run(given: &[usize], code: &[u8], input: &[u8], room: usize, limit: u64) -> u32 {
+fn run(
+    rt: &HostRuntime,
+    given: &[usize],
+    code: &[u8],
+    input: &[u8],
+    room: usize,
+    limit: u64,
+) -> u32 {
     let mut memory = rooms::memory_room();
     let mut registers = [0u32; 32];
     let mut log = rooms::log_room();
@@ -158,50 +183,50 @@ fn run(given: &[usize], code: &[u8], input: &[u8], room: usize, limit: u64) -> u
         limit,
     );
     match o {
-        Outcome::Refused(n) => refused(given, n),
-        Outcome::Ran(e) => ran(given, e, input.len(), &memory, &registers, &log),
+        Outcome::Refused(n) => refused(rt, given, n),
+        Outcome::Ran(e) => ran(rt, given, e, input.len(), &memory, &registers, &log),
     }
 }
 
 // The image and the input block, read; then their run.
-fn load(given: &[usize], room: usize, limit: u64) -> u32 {
+fn load(rt: &HostRuntime, given: &[usize], room: usize, limit: u64) -> u32 {
     let mut code = rooms::code_room();
     let mut block = rooms::block_room();
-    let r = files::read_both(given, &mut code, &mut block);
+    let r = files::read_both(rt, given, &mut code, &mut block);
     if r.failed {
         return output::BAD_USAGE;
     }
     let n = r.first;
     let k = r.block;
-    run(given, &code[..n], &block[..k], room, limit)
+    run(rt, given, &code[..n], &block[..k], room, limit)
 }
 
 // Whether the memory would be written over a file that is read, by their names.
-fn over_itself(given: &[usize]) -> bool {
+fn over_itself(rt: &HostRuntime, given: &[usize]) -> bool {
     let i = arguments::given_for(given, arguments::MEMORY);
     if i == 0 {
         return false;
     }
-    let mut over = files::is_same(arguments::given_for(given, arguments::FIRST), i);
+    let mut over = files::is_same(rt, arguments::given_for(given, arguments::FIRST), i);
     if files::has_block(given) {
-        if files::is_same(files::block_argument(given), i) {
+        if files::is_same(rt, files::block_argument(given), i) {
             over = true;
         }
     }
     if over {
-        about(i);
-        tell(b"the memory would replace a file that is read\n");
+        about(rt, i);
+        tell(rt, b"the memory would replace a file that is read\n");
     }
     over
 }
 
-pub fn exec(given: &[usize]) -> u32 {
-    if over_itself(given) {
+pub fn exec(rt: &HostRuntime, given: &[usize]) -> u32 {
+    if over_itself(rt, given) {
         return output::BAD_USAGE;
     }
-    let v = values::values_of(given, arguments::LIMIT, values::LIMIT);
+    let v = values::values_of(rt, given, arguments::LIMIT, values::LIMIT);
     if v.failed {
         return output::BAD_USAGE;
     }
-    load(given, v.room, v.most)
+    load(rt, given, v.room, v.most)
 }

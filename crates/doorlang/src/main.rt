@@ -5,7 +5,10 @@ ghost use Rattle.std.specs.Prelude.{◌<◌, ◌≤◌, ◌^◌, length};
 
 use console::arguments;
 use console::arguments::{Command, Seen};
-use output::tell;
+use output::{argument, tell};
+use std::env::FillError;
+use std::process::ExitCode;
+use std::rt::Env;
 
 mod build; // the image of a text
 mod check; // the answer to a text
@@ -23,87 +26,86 @@ mod values; // the numbers that options give
 const MOST_ARGUMENTS: usize = 24;
 
 // A sentence about argument i, and how the program is used.
-fn bad_usage(about: &[u8], i: usize) -> u32 {
-    tell(b"doorlang: ");
-    tell(about);
+fn bad_usage(rt: &HostRuntime, about: &[u8], i: usize) -> u32 {
+    tell(rt, b"doorlang: ");
+    tell(rt, about);
     if 0 < i {
-        tell(b": ");
-        output::tell_argument(i);
+        tell(rt, b": ");
+        output::tell_argument(rt, i);
     }
-    tell(b"\n\n");
-    help::usage(libc::STDERR_FILENO);
+    tell(rt, b"\n\n");
+    help::usage(&rt.stderr());
     output::BAD_USAGE
 }
 
 // What is wrong with the arguments.
-fn wrong(s: Seen) -> u32 {
+fn wrong(rt: &HostRuntime, s: Seen) -> u32 {
     let at = s.at;
     let problem = s.problem;
     match problem {
-        arguments::NOT_TAKEN => bad_usage(b"this command takes no such option", at),
-        arguments::TWICE => bad_usage(b"an option is given twice", at),
-        arguments::NO_VALUE => bad_usage(b"an option has no value", at),
-        arguments::TOO_MANY_FILES => bad_usage(b"a file more than this command takes", at),
-        arguments::NO_FILE => bad_usage(b"the command lacks a file", 1),
-        _ => bad_usage(b"--input and --block exclude each other", 0),
+        arguments::NOT_TAKEN => bad_usage(rt, b"this command takes no such option", at),
+        arguments::TWICE => bad_usage(rt, b"an option is given twice", at),
+        arguments::NO_VALUE => bad_usage(rt, b"an option has no value", at),
+        arguments::TOO_MANY_FILES => bad_usage(rt, b"a file more than this command takes", at),
+        arguments::NO_FILE => bad_usage(rt, b"the command lacks a file", 1),
+        _ => bad_usage(rt, b"--input and --block exclude each other", 0),
     }
 }
 
-fn perform(command: Command, given: &[usize]) -> u32 {
+fn perform(rt: &HostRuntime, command: Command, given: &[usize]) -> u32 {
     match command {
-        Command::Help => help::help(),
-        Command::Check => check::check(given),
-        Command::Run => run::run(given),
-        Command::Build => build::build(given),
-        Command::Exec => exec::exec(given),
-        Command::Compare => compare::compare(given),
+        Command::Help => help::help(rt),
+        Command::Check => check::check(rt, given),
+        Command::Run => run::run(rt, given),
+        Command::Build => build::build(rt, given),
+        Command::Exec => exec::exec(rt, given),
+        Command::Compare => compare::compare(rt, given),
         Command::Other => output::BAD_USAGE,
     }
 }
 
 // The place of argument i by its name.
-fn place_of(i: usize) -> usize {
-    let mut word = io::buffer();
-    let n = os::arg(i, &mut word);
+fn place_of(rt: &HostRuntime, i: usize) -> usize {
+    let mut word = rooms::word_room();
+    let n = argument(rt, i, &mut word);
     arguments::place_of(&word[..n])
 }
 
 // Whether argument i is there, and no longer than a file's name may be.
-fn whole(i: usize) -> bool {
-    let mut word = io::buffer();
-    os::arg(i, &mut word);
-    os::errno() == 0
+fn whole(rt: &HostRuntime, i: usize) -> bool {
+    let mut word = rooms::word_room();
+    rt.arg(i, &mut word).is_ok()
 }
 
 // Puts the places of the arguments after the command into the table; the first argument that is too long, 0 for none.
-fn places(count: usize, table: &mut [usize]) -> usize {
+fn places(rt: &HostRuntime, count: usize, table: &mut [usize]) -> usize {
     let mut i: usize = 0;
     while i < table.len() {
         if i < count {
-            if !whole(i + 2) {
+            if !whole(rt, i + 2) {
                 return i + 2;
             }
         }
-        table[i] = place_of(i + 2);
+        table[i] = place_of(rt, i + 2);
         i += 1;
     }
     0
 }
 
-fn command_of() -> Command {
-    let mut word = io::buffer();
-    let n = os::arg(1, &mut word);
+fn command_of(rt: &HostRuntime) -> Command {
+    let mut word = rooms::word_room();
+    let n = argument(rt, 1, &mut word);
     arguments::command_of(&word[..n])
 }
 
 // The command, with `count` arguments after it.
-fn command(count: usize, table: &mut [usize], given: &mut [usize]) -> u32
+fn command(rt: &HostRuntime, count: usize, table: &mut [usize], given: &mut [usize]) -> u32
     requires { (count ≤ length table.old) × (length table.old < 2 ^ 32) }
 {
-    let c = command_of();
+    let c = command_of(rt);
     match c {
         Command::Other => {
-            return bad_usage(b"there is no such command", 1);
+            return bad_usage(rt, b"there is no such command", 1);
         }
         Command::Help => (),
         Command::Check => (),
@@ -112,30 +114,50 @@ fn command(count: usize, table: &mut [usize], given: &mut [usize]) -> u32
         Command::Exec => (),
         Command::Compare => (),
     }
-    let long = places(count, table);
+    let long = places(rt, count, table);
     if long != 0 {
-        return bad_usage(b"an argument is longer than 4096 bytes", 0);
+        return bad_usage(rt, b"an argument is longer than 4096 bytes", 0);
     }
     let s = arguments::see_all(c, &table[..count], given);
     if s.problem != arguments::NOTHING {
-        return wrong(s);
+        return wrong(rt, s);
     }
-    perform(c, given)
+    perform(rt, c, given)
 }
 
-fn start() -> u32 {
+// Whether there is an argument i.
+fn is_given(rt: &HostRuntime, i: usize) -> bool {
+    let mut byte = [0u8; 1];
+    match rt.arg(i, &mut byte) {
+        Ok(_) => true,
+        Err(FillError::TooLong) => true,
+        Err(FillError::NotPresent) => false,
+    }
+}
+
+// How many arguments there are, with the program's name; of more than any command takes, one more than that.
+fn argument_count(rt: &HostRuntime) -> usize {
+    for i in 0..MOST_ARGUMENTS + 3 {
+        if !is_given(rt, i) {
+            return i;
+        }
+    }
+    MOST_ARGUMENTS + 3
+}
+
+fn start(rt: &HostRuntime) -> u32 {
     let mut table = [0usize; MOST_ARGUMENTS];
     let mut given = [0usize; arguments::PLACES];
-    let n = os::arg_count();
+    let n = argument_count(rt);
     if n < 2 {
-        return bad_usage(b"there is no command", 0);
+        return bad_usage(rt, b"there is no command", 0);
     }
     if MOST_ARGUMENTS < n - 2 {
-        return bad_usage(b"there are more arguments than any command takes", 0);
+        return bad_usage(rt, b"there are more arguments than any command takes", 0);
     }
-    command(n - 2, &mut table, &mut given)
+    command(rt, n - 2, &mut table, &mut given)
 }
 
-fn main() {
-    output::report(start());
+fn main(rt: HostRuntime) -> ExitCode {
+    output::report(start(&rt))
 }

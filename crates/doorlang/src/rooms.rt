@@ -12,6 +12,16 @@ pub fn block_room() -> [u8; 1048577] {
     [0; 1048577]
 }
 
+// An argument, or as much of it as a file's name may have.
+pub fn word_room() -> [u8; 4096] {
+    [0; 4096]
+}
+
+// A part of an input text.
+pub fn part_room() -> [u8; 65536] {
+    [0; 65536]
+}
+
 // Working room, in words.
 pub fn tokens_room() -> [u32; 196608] {
     [0; 196608]

@@ -7,29 +7,29 @@ use console::arguments;
 use interpreter::{Outcome, Ran};
 use toolchain::interpret::Interpreted;
 
-fn outcome_line(o: Outcome) {
-    say(b"outcome:");
+fn outcome_line(rt: &HostRuntime, o: Outcome) {
+    say(rt, b"outcome:");
     match o {
-        Outcome::Finished => say(b" finished"),
+        Outcome::Finished => say(rt, b" finished"),
         Outcome::Trapped(t) => {
-            say(b" trap ");
-            output::say_number(t as u64)
+            say(rt, b" trap ");
+            output::say_number(rt, t as u64)
         }
-        Outcome::OutOfFuel => say(b" out of fuel"),
+        Outcome::OutOfFuel => say(rt, b" out of fuel"),
     };
-    say(b"\n");
+    say(rt, b"\n");
 }
 
 // What became of the program, for people.
-pub fn tell_outcome(given: &[usize], o: Outcome) {
-    about(arguments::given_for(given, arguments::FIRST));
+pub fn tell_outcome(rt: &HostRuntime, given: &[usize], o: Outcome) {
+    about(rt, arguments::given_for(given, arguments::FIRST));
     match o {
         Outcome::Finished => {
-            tell(b"the program finished\n");
+            tell(rt, b"the program finished\n");
         }
-        Outcome::Trapped(t) => exec::tell_trap(t),
+        Outcome::Trapped(t) => exec::tell_trap(rt, t),
         Outcome::OutOfFuel => {
-            tell(b"the program ran out of fuel\n");
+            tell(rt, b"the program ran out of fuel\n");
         }
     }
 }
@@ -49,23 +49,38 @@ pub fn used(fuel: u64, left: u64) -> u64
 }
 
 // The lines of a run, and whether they could be written; `size` is that of the input block.
-pub fn lines(r: Ran, fuel: u64, size: usize, arrays: &[u32], log: &[u32]) -> bool {
+pub fn lines(
+    rt: &HostRuntime,
+    r: Ran,
+    fuel: u64,
+    size: usize,
+    arrays: &[u32],
+    log: &[u32],
+) -> bool {
     let o = r.outcome;
     let logged = r.logged;
-    output::line(b"answer: ", 0);
-    outcome_line(o);
-    output::line(b"fuel: ", used(fuel, r.fuel));
-    output::log_line(b"log:", log, logged);
-    output::log_line(b"arrays:", arrays, size / 4)
+    output::line(rt, b"answer: ", 0);
+    outcome_line(rt, o);
+    output::line(rt, b"fuel: ", used(fuel, r.fuel));
+    output::log_line(rt, b"log:", log, logged);
+    output::log_line(rt, b"arrays:", arrays, size / 4)
 }
 
-fn show(given: &[usize], r: Ran, fuel: u64, size: usize, arrays: &[u32], log: &[u32]) -> u32 {
-    if lines(r, fuel, size, arrays, log) {
+fn show(
+    rt: &HostRuntime,
+    given: &[usize],
+    r: Ran,
+    fuel: u64,
+    size: usize,
+    arrays: &[u32],
+    log: &[u32],
+) -> u32 {
+    if lines(rt, r, fuel, size, arrays, log) {
         let o = r.outcome;
-        tell_outcome(given, o);
+        tell_outcome(rt, given, o);
         return status_of(o);
     }
-    output::unwritten()
+    output::unwritten(rt)
 }
 
 // What `interpret` answered, and the size of the input block that it was given.
@@ -143,7 +158,15 @@ pub fn answer_of(
     )
 }
 
-fn go(given: &[usize], text: &[u8], block: &[u8], size: usize, room: usize, fuel: u64) -> u32
+fn go(
+    rt: &HostRuntime,
+    given: &[usize],
+    text: &[u8],
+    block: &[u8],
+    size: usize,
+    room: usize,
+    fuel: u64,
+) -> u32
     requires { size ≤ length block.now }
 {
     let mut arrays = rooms::arrays_room();
@@ -152,27 +175,29 @@ fn go(given: &[usize], text: &[u8], block: &[u8], size: usize, room: usize, fuel
     let said = a.said;
     let size = a.size;
     match said {
-        Interpreted::Refused(number, offset) => texts::refused(given, text, number, offset, size),
-        Interpreted::Ran(r) => show(given, r, fuel, size, &arrays, &log),
+        Interpreted::Refused(number, offset) => texts::refused(
+            rt, given, text, number, offset, size,
+        ),
+        Interpreted::Ran(r) => show(rt, given, r, fuel, size, &arrays, &log),
     }
 }
 
 // The text and the input block, read; then the run.
-fn load(given: &[usize], room: usize, fuel: u64) -> u32 {
+fn load(rt: &HostRuntime, given: &[usize], room: usize, fuel: u64) -> u32 {
     let mut text = rooms::text_room();
     let mut block = rooms::block_room();
-    let r = files::read_both(given, &mut text, &mut block);
+    let r = files::read_both(rt, given, &mut text, &mut block);
     if r.failed {
         return output::BAD_USAGE;
     }
     let n = r.first;
-    go(given, &text[..n], &block, r.block, room, fuel)
+    go(rt, given, &text[..n], &block, r.block, room, fuel)
 }
 
-pub fn run(given: &[usize]) -> u32 {
-    let v = values::values_of(given, arguments::FUEL, values::FUEL);
+pub fn run(rt: &HostRuntime, given: &[usize]) -> u32 {
+    let v = values::values_of(rt, given, arguments::FUEL, values::FUEL);
     if v.failed {
         return output::BAD_USAGE;
     }
-    load(given, v.room, v.most)
+    load(rt, given, v.room, v.most)
 }

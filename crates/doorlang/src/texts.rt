@@ -13,83 +13,99 @@ pub fn at_most(n: usize, most: usize) -> usize
 }
 
 // The line and the column of a byte.
-fn tell_place(text: &[u8], offset: usize) {
+fn tell_place(rt: &HostRuntime, text: &[u8], offset: usize) {
     if text.len() < 65538 {
         let n = at_most(offset, text.len());
         let p = place::place_after(&text[..n]);
-        tell(b":");
-        tell_number(p.line as u64);
-        tell(b":");
-        tell_number(p.column as u64);
+        tell(rt, b":");
+        tell_number(rt, p.line as u64);
+        tell(rt, b":");
+        tell_number(rt, p.column as u64);
     }
 }
 
 // Why a text of so many bytes cannot be read.
-fn tell_unreadable(size: usize, offset: usize) {
+fn tell_unreadable(rt: &HostRuntime, size: usize, offset: usize) {
     if 65536 < size {
-        tell(b": the text is longer than 65536 bytes\n");
+        tell(rt, b": the text is longer than 65536 bytes\n");
     } else if offset == size {
-        tell(b": the text ends too soon\n");
+        tell(rt, b": the text ends too soon\n");
     } else {
-        tell(b": this cannot be read\n");
+        tell(rt, b": this cannot be read\n");
     }
 }
 
 // Which rule a text of so many bytes breaks, as far as the place tells: only the lack of `main` is at its end.
-fn tell_broken(size: usize, offset: usize) {
+fn tell_broken(rt: &HostRuntime, size: usize, offset: usize) {
     if offset == size {
-        tell(b": there is no function main\n");
+        tell(rt, b": there is no function main\n");
     } else {
-        tell(b": a rule of names, types, calls, returns or sizes is broken here\n");
+        tell(
+            rt,
+            b": a rule of names, types, calls, returns or sizes is broken here\n",
+        );
     }
 }
 
 // What an answer means (document 01 §1, document 03 §5).
-fn tell_answer(number: u32, size: usize, offset: usize) {
+fn tell_answer(rt: &HostRuntime, number: u32, size: usize, offset: usize) {
     match number {
-        1 => tell_unreadable(size, offset),
-        2 => tell_broken(size, offset),
+        1 => tell_unreadable(rt, size, offset),
+        2 => tell_broken(rt, size, offset),
         3 => {
-            tell(b": the image does not fit into 524288 bytes\n");
+            tell(rt, b": the image does not fit into 524288 bytes\n");
         }
         _ => {
-            tell(b": the room that was lent is too short\n");
+            tell(rt, b": the room that was lent is too short\n");
         }
     }
 }
 
 // What is wrong with an input block of so many bytes: answer 5.
-fn tell_block(given: &[usize], size: usize) {
-    output::about(files::block_argument(given));
-    tell(b"it has ");
+fn tell_block(rt: &HostRuntime, given: &[usize], size: usize) {
+    output::about(rt, files::block_argument(given));
+    tell(rt, b"it has ");
     if arguments::given_for(given, arguments::INPUT) != 0 {
-        tell_number((size / 4) as u64);
-        tell(b" numbers, which is not one for each element of the arrays\n");
+        tell_number(rt, (size / 4) as u64);
+        tell(
+            rt,
+            b" numbers, which is not one for each element of the arrays\n",
+        );
     } else {
-        tell_number(size as u64);
-        tell(b" bytes, which is not one word for each element of the arrays\n");
+        tell_number(rt, size as u64);
+        tell(
+            rt,
+            b" bytes, which is not one word for each element of the arrays\n",
+        );
     }
 }
 
 // What a refusal means, with the place, where there is one.
-fn tell_refusal(given: &[usize], text: &[u8], number: u32, offset: usize) {
-    tell(b"doorlang: ");
-    tell_argument(arguments::given_for(given, arguments::FIRST));
+fn tell_refusal(rt: &HostRuntime, given: &[usize], text: &[u8], number: u32, offset: usize) {
+    tell(rt, b"doorlang: ");
+    tell_argument(rt, arguments::given_for(given, arguments::FIRST));
     if number < 3 {
-        tell_place(text, offset);
+        tell_place(rt, text, offset);
     }
-    tell_answer(number, text.len(), offset);
+    tell_answer(rt, number, text.len(), offset);
 }
 
 // A refusal: its line, and a sentence. `block` is the size of the input block.
-pub fn refused(given: &[usize], text: &[u8], number: u32, offset: usize, block: usize) -> u32 {
-    if !output::line(b"answer: ", number as u64) {
-        return output::unwritten();
+pub fn refused(
+    rt: &HostRuntime,
+    given: &[usize],
+    text: &[u8],
+    number: u32,
+    offset: usize,
+    block: usize,
+) -> u32 {
+    if !output::line(rt, b"answer: ", number as u64) {
+        return output::unwritten(rt);
     }
     if number == 5 {
-        tell_block(given, block);
+        tell_block(rt, given, block);
     } else {
-        tell_refusal(given, text, number, offset);
+        tell_refusal(rt, given, text, number, offset);
     }
     output::REFUSED
 }

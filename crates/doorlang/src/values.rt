@@ -1,6 +1,6 @@
 // The numbers that options give.
-use crate::help;
-use crate::output::{tell, tell_argument, tell_number};
+use crate::output::{argument, tell, tell_argument, tell_number};
+use crate::{help, rooms};
 use console::numbers::Number;
 use console::{arguments, numbers};
 
@@ -22,24 +22,24 @@ struct Value {
     number: u64,
 }
 
-fn given_number(i: usize, most: u64) -> Number {
-    let mut room = io::buffer();
-    let n = os::arg(i, &mut room);
+fn given_number(rt: &HostRuntime, i: usize, most: u64) -> Number {
+    let mut room = rooms::word_room();
+    let n = argument(rt, i, &mut room);
     numbers::number_of(&room[..n], most)
 }
 
 // A sentence about an option, whose value is argument i.
-fn tell_option(i: usize) {
-    tell(b"doorlang: ");
+fn tell_option(rt: &HostRuntime, i: usize) {
+    tell(rt, b"doorlang: ");
     if 0 < i {
-        tell_argument(i - 1);
+        tell_argument(rt, i - 1);
     }
-    tell(b" ");
-    tell_argument(i);
+    tell(rt, b" ");
+    tell_argument(rt, i);
 }
 
 // The number that is given for an option, at most `most`; the usual one where none is given.
-fn value_of(given: &[usize], place: usize, usual: u64, most: u64) -> Value {
+fn value_of(rt: &HostRuntime, given: &[usize], place: usize, usual: u64, most: u64) -> Value {
     let i = arguments::given_for(given, place);
     if i == 0 {
         return Value {
@@ -47,26 +47,26 @@ fn value_of(given: &[usize], place: usize, usual: u64, most: u64) -> Value {
             number: usual,
         };
     }
-    let number = given_number(i, most);
+    let number = given_number(rt, i, most);
     match number {
         Number::Is(n) => Value {
             failed: false,
             number: n,
         },
         Number::TooLarge => {
-            tell_option(i);
-            tell(b": the most is ");
-            tell_number(most);
-            tell(b"\n");
+            tell_option(rt, i);
+            tell(rt, b": the most is ");
+            tell_number(rt, most);
+            tell(rt, b"\n");
             Value {
                 failed: true,
                 number: 0,
             }
         }
         Number::NoNumber => {
-            tell_option(i);
-            tell(b": this is no decimal number\n\n");
-            help::usage(libc::STDERR_FILENO);
+            tell_option(rt, i);
+            tell(rt, b": this is no decimal number\n\n");
+            help::usage(&rt.stderr());
             Value {
                 failed: true,
                 number: 0,
@@ -84,8 +84,8 @@ pub struct Values {
 }
 
 // The two numbers that the options of a run give: --room, and that of this place.
-pub fn values_of(given: &[usize], place: usize, usual: u64) -> Values {
-    let room = value_of(given, arguments::ROOM, ROOM, MOST_ROOM);
+pub fn values_of(rt: &HostRuntime, given: &[usize], place: usize, usual: u64) -> Values {
+    let room = value_of(rt, given, arguments::ROOM, ROOM, MOST_ROOM);
     if room.failed {
         return Values {
             failed: true,
@@ -93,7 +93,7 @@ pub fn values_of(given: &[usize], place: usize, usual: u64) -> Values {
             most: 0,
         };
     }
-    let most = value_of(given, place, usual, MOST);
+    let most = value_of(rt, given, place, usual, MOST);
     Values {
         failed: most.failed,
         room: room.number as usize,

@@ -9,6 +9,7 @@ use toolchain::check::check;
 // Returns the answer; where that is 0, `elements` is how many the text's arrays have, and else it stays as it was. `place` is the place in a text
 // that is refused.
 #[unsafe(no_mangle)]
+#[tactic(auto, unfolding(crate::specs::Checking::checked))]
 pub extern "C" fn doorlang_check(
     text: &[u8],
     tokens: &mut [u32],

@@ -10,6 +10,7 @@ use toolchain::compile::{Compiled, compile};
 // Returns the answer; where that is 0, the image stands at the start of its buffer and `size` is its length in bytes, and else both stay as they
 // were. The last is the place in a text that is refused.
 #[unsafe(no_mangle)]
+#[tactic(auto, unfolding(crate::specs::Compilation::compiled))]
 pub extern "C" fn doorlang_compile(
     text: &[u8],
     image: &mut [u8],

@@ -8,6 +8,7 @@ use toolchain::{Outcome, emulate};
 
 // Returns the answer; where that is 0, the last five say how the run stopped, and else they stay as they were.
 #[unsafe(no_mangle)]
+#[tactic(auto, unfolding(crate::specs::Emulation::emulated))]
 pub extern "C" fn doorlang_emulate(
     code: &[u8],
     input: &[u8],

@@ -32,6 +32,7 @@ fn trap_of(o: Outcome) -> u32
 }
 
 // Writes the figures of a run, or the place in a text that is refused; returns the answer.
+#[tactic(auto, unfolding(crate::specs::Interpretation::interpreted))]
 fn tell(
     i: Interpreted,
     outcome: &mut u32,

@@ -10,7 +10,7 @@ use Rattle.language.specs.Tree as T
 use Rattle.language.specs.Tokens.{Token, Placed, largest_number}
 use Rattle.language.specs.Grammar.{Has, IsBlock, IsParam, IsParamList, IsParams, IsResult, IsItem, IsItems}
 use Rattle.language.specs.Core.{Function}
-use Rattle.language.specs.Rules.{Global, Scope, parameters, block, function_from, functions_from, most_parameters}
+use Rattle.language.specs.Rules.{Global, Scope, block, function_from, functions_from, most_parameters}
 use Rattle.flat.specs.Items.{most_operands}
 use Rattle.flat.specs.Words.{most_nesting}
 use Rattle.flat.specs.Fits.{nests_all, block_operands}

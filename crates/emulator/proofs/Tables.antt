@@ -1,6 +1,6 @@
 -- Numbers that no row of a table has.
 use Prim.Native.Nat.{ℕ}
-use mathlib.Core.Path.{◌≡◌, refl}
+use mathlib.Core.Path.{◌≡◌}
 use mathlib.Core.Option.{none}
 use borrow.Author.Tests.{ne_eqb}
 use Rattle.processor.specs.declared.Instr.TheVariants.{Unknown}

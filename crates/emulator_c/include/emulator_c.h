@@ -1,4 +1,4 @@
-// What `rt staticlib emulator_c` hands to C. A slice of Rattle is a pointer and a length.
+// What `tools/staticlib emulator_c` hands to C. A slice of Rattle is a pointer and a length.
 #ifndef EMULATOR_C_H
 #define EMULATOR_C_H
 

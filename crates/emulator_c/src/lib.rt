@@ -1,4 +1,5 @@
-// The emulator and the decoder for programs in C: `rt staticlib emulator_c` makes the library. A slice is a pointer and a length to C.
+// What the emulator and the decoder tell a program in C. The crate emulator_c_c exports the three functions of the panel, and `tools/staticlib
+// emulator_c` makes the library.
 #![tactic(auto)]
 
 ghost use Rattle.std.specs.Prelude.{◌≡◌, ◌≤◌, length};
@@ -60,8 +61,7 @@ pub fn told(i: Instr) -> Columns
 }
 
 // The instruction that a word is, as numbers.
-#[unsafe(no_mangle)]
-pub extern "C" fn panel_decode(
+pub fn panel_decode(
     w: u32,
     opcode: &mut u32,
     key: &mut u32,
@@ -70,7 +70,7 @@ pub extern "C" fn panel_decode(
     rs2: &mut u32,
     imm: &mut u32,
 )
-    ensures { record { opcode = opcode.exit.now; key = key.new; rd = rd.new; rs1 = rs1.new; rs2 = rs2.new; imm = imm.new } ≡ columns_of (decode_of w) }
+    ensures { record { opcode = opcode.new; key = key.new; rd = rd.new; rs1 = rs1.new; rs2 = rs2.new; imm = imm.new } ≡ columns_of (decode_of w) }
 {
     let c = told(decode(w));
     *opcode = c.opcode;
@@ -82,8 +82,7 @@ pub extern "C" fn panel_decode(
 }
 
 // The word of the instruction that a word is.
-#[unsafe(no_mangle)]
-pub extern "C" fn panel_recode(w: u32) -> u32
+pub fn panel_recode(w: u32) -> u32
     ensures { result ≡ encode_of (decode_of w) }
 {
     encode(decode(w))
@@ -116,8 +115,7 @@ pub fn number_of(s: Status) -> u32
 }
 
 // The run of an image; the log's room is the whole of it. Returns how the run stopped.
-#[unsafe(no_mangle)]
-pub extern "C" fn panel_run(
+pub fn panel_run(
     code: &[u8],
     input: &[u8],
     memory: &mut [u8],

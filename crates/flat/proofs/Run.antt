@@ -13,7 +13,7 @@ use lib.Seq.{get_or-drop}
 use borrow.Author.Tests.{lt-ltb, le-ltb, ltb-true, ltb-false}
 use Rattle.language.specs.Core as C
 use Rattle.language.specs.Meaning.{ended, most_activations, run_of}
-use Rattle.flat.specs.Statements.{Function, flats, flatten}
+use Rattle.flat.specs.Statements.{flats, flatten}
 use Rattle.flat.specs.Words.{word, most_nesting, program_words, function_words, entry, function_of, flat_run, count, block_length, block_words, entries, bodies, words_then, words_of}
 use Rattle.flat.specs.Fits.{nests_all, function_at, body_of, Fits}
 use Rattle.flat.proofs.Same.{calls_same}

@@ -10,7 +10,7 @@ use Rattle.language.specs.Core as C
 use Rattle.language.specs.Rules.{most_locals}
 use Rattle.language.specs.Meaning.{World, Act, bind, value, begin, Flow, next, rounds, back, eval, evals, exec, block, call_at}
 use Rattle.flat.specs.Items.{code, codes, most_operands, begins, scan, evaluate}
-use Rattle.flat.specs.Statements.{Stmt, Block, Function, flat, flats, flatten, fexec, fblock, fcall_at}
+use Rattle.flat.specs.Statements.{Function, flat, flats, flatten, fexec, fblock, fcall_at}
 use Rattle.flat.specs.Fits.{operands, locals, most, most_all, function_at, lets_of, body_of, block_operands, block_locals}
 use Rattle.flat.proofs.Bind.{bind_assoc, bind_ext, bind_goes}
 use Rattle.flat.proofs.Scan.{onto, Agree, scan_code, scan_codes}

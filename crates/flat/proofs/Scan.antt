@@ -9,7 +9,7 @@ use Rattle.language.specs.Core.{Expr, Args}
 use Rattle.language.specs.Core as C
 use Rattle.language.specs.Rules.{most_locals}
 use Rattle.language.specs.Meaning.{World, Result, Act, bind, value, branch, apply, operate, read, fetch, eval, evals}
-use Rattle.flat.specs.Items.{number, local, element, call, unary, strict, and, or, join, Item, item, size, sizes, code, codes, most_operands, begins, popped, Onward, push, step, scan}
+use Rattle.flat.specs.Items.{and, or, join, Item, item, size, sizes, code, codes, most_operands, begins, popped, Onward, push, step, scan}
 use Rattle.flat.specs.Fits.{operands, operands_all, arguments, locals, locals_all}
 use Rattle.flat.proofs.Bind.{bind_assoc, bind_ext, begins_more}
 

@@ -11,10 +11,10 @@ use lib.ListN.{length}
 use borrow.Author.Tests.{lt-ltb, le-ltb, eq-eqb, ne_eqb}
 use Rattle.word.specs.Choice.{pick}
 use Rattle.language.specs.Tree.{Place, Name, Ty, Unary, Binary, Expr, Args, Stmt, Block, Param, Item}
-use Rattle.language.specs.Tokens.{Word, Sign, Token, Placed, placed, In, In.here, In.there}
+use Rattle.language.specs.Tokens.{Word, Sign, Token, Placed, In, In.there}
 use Rattle.language.specs.Grammar.{op, operators, unaries, most_open, expr_level, comp_level, unary_level, nth, At, Has, HasSign, HasWord, IsExpr, IsRest, IsArgs, IsExprs, IsType, IsStmt, IsStmts, IsBlock, IsParam, IsParamList, IsParams, IsResult, IsItem, IsItems, Program}
 use Rattle.tokens.specs.Kinds.{sign_kind, word_kind, kind_of}
-use Rattle.grammar.specs.Parse.{Out, Out.ok, Out.bad, next, map, kind_in, place_in, name_in, name_of, number_in, number_of, kind, place_of, name_at, number_at, is_sign, is_word, is_name, is_number, level_in, level_of, means_of, many, most, Tail, Tail.done, Tail.more, grow, expr_steps, block_steps, expect, opening}
+use Rattle.grammar.specs.Parse.{Out, Out.ok, next, map, kind_in, place_in, name_in, name_of, kind, place_of, level_in, level_of, means_of, many, most, Tail, grow, expr_steps, block_steps}
 use Rattle.grammar.specs.Parse.{rest_of, exprs_of, args_of, arguments_of, enclosed_of, named_of, unary_of, primary_of, levelled, expr_of, index_of, call_of, ended_of, type_of, typed_of, declare_of, assign_of, store_of, run_of, change_of, return_of, emit_of, while_of, else_of, if_of, stmt_of, stmts_of, block_of, param_of, param_list_of, params_of, result_of, size_of, array_of, body_of, function_of, item_of, items_of, program_of}
 use Rattle.grammar.proofs.TokenKinds.{kind_has, number_has, has, row_level, row_means}
 

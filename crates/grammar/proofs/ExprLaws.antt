@@ -1,27 +1,25 @@
 -- Each way through the functions of expressions is a clause of the parser.
-use mathlib.Core.Path.{◌≡◌, refl, sym, ap, subst, ◌∙◌}
+use mathlib.Core.Path.{◌≡◌, refl, sym, ap, ◌∙◌}
 use mathlib.Core.Bool.{Bool, true, false}
-use mathlib.Core.List.{List, [], ◌∷◌, ◌++◌, append_assoc, append-nil}
-use mathlib.Core.Option.{Option}
+use mathlib.Core.List.{List, [], ◌∷◌, append-nil}
 use Prim.Native.Nat.{ℕ, zero, suc, ◌+◌, ◌*◌, ◌-◌, ◌/◌, ◌≤◌, ◌<◌}
 use native.Mathlib.Omega.{arith}
-use lib.Dec.{ltb, eqb}
-use lib.ListN.{length}
+use lib.Dec.{eqb}
 use lib.Seq.{sets}
 use borrow.Author.Tests.{lt-ltb, le-ltb, eq-eqb, ne_eqb}
 use Rattle.word.specs.Choice.{pick}
-use Rattle.language.specs.Tree.{Place, Name, Unary, Binary, Expr, Args}
-use Rattle.language.specs.Tokens.{Word, Sign, Placed}
-use Rattle.language.specs.Grammar.{operators, most_open, expr_level, unary_level}
+use Rattle.language.specs.Tree.{Place, Binary, Expr, Args}
+use Rattle.language.specs.Tokens.{Sign}
+use Rattle.language.specs.Grammar.{operators}
 use Rattle.tokens.specs.Kinds.{sign_kind, word_kind}
-use Rattle.grammar.specs.Parse.{Out, Out.ok, Out.bad, next, map, kind_in, place_in, name_in, number_in, kind, place_of, name_at, number_at, level_of, means_of, level_in, many, most, Tail, grow, rest_of, exprs_of, args_of, arguments_of, enclosed_of, named_of, unary_of, primary_of, levelled}
-use Rattle.grammar.specs.Flat.{item, size, arg_count, expr_words, args_words, right_words, tail_words, unary_number, truth_number, strict_number, strict_item, join_item}
-use Rattle.grammar.specs.Told.{Row, field_of, Holds, Form, Says, Found, Told, Room, Right, operand_of, unary_at, item_kind, item_number, expr_form, right_form, tail_form, args_form}
+use Rattle.grammar.specs.Parse.{Out, Out.ok, Out.bad, next, map, kind_in, place_in, name_in, number_in, kind, place_of, level_of, means_of, level_in, most, Tail, grow, rest_of, exprs_of, args_of, arguments_of, enclosed_of, named_of, unary_of, primary_of, levelled}
+use Rattle.grammar.specs.Flat.{item, size, arg_count, expr_words, args_words, right_words, tail_words, unary_number, truth_number}
+use Rattle.grammar.specs.Told.{Row, field_of, Holds, Form, Found, Told, Right, operand_of, unary_at, item_kind, item_number, expr_form, right_form, tail_form, args_form}
 use Rattle.grammar.specs.declared.Got.{Got}
 use Rattle.grammar.specs.declared.Got.TheVariants.{Done, Fault}
-use Rattle.grammar.proofs.FlatLaws.{expr_linear, args_linear, tail_linear, right_linear, grow_words, expr_length_lem}
+use Rattle.grammar.proofs.FlatLaws.{expr_linear, args_linear, right_linear, grow_words, expr_length_lem}
 use Rattle.grammar.proofs.Complete.{step, chain_step}
-use Rattle.grammar.proofs.Steps.{hit, miss, found, fault, same, leaf, close, front, seq, Going, begun, goes_done, goes_fault, goes_on, kind_is, kind_not, kind_eq, name_length, number_is, place_is}
+use Rattle.grammar.proofs.Steps.{fault, same, leaf, close, front, seq, Going, goes_done, goes_fault, goes_on, kind_is, kind_not, kind_eq, name_length, number_is, place_is}
 
 -- a part that fails
 pub stop : {A B : Type 0} {K : Form B} {f : Row → Out A} {k : Row → Out B} {ts : List ℕ} {n i at p : ℕ} {xs ys : List ℕ} (g : Row → A → ℕ → Out B) → ((tok : Row) → Holds tok ts n → f tok ≡ bad p) → ((tok : Row) → Holds tok ts n → k tok ≡ next (f tok) (g tok)) → Told K k ts n xs i at (Fault p) ys

@@ -1,13 +1,12 @@
 -- Words and then more are the words, and then more: each encoding is linear in what follows, so that what is written part by part is the whole.
-use mathlib.Core.Path.{◌≡◌, refl, sym, ap, subst, ◌∙◌}
-use mathlib.Core.List.{List, [], ◌∷◌, ◌++◌, append_assoc, append-nil}
-use mathlib.Core.Option.{Option}
-use Prim.Native.Nat.{ℕ, zero, suc, ◌+◌, ◌*◌}
+use mathlib.Core.Path.{◌≡◌, refl, sym, ap, ◌∙◌}
+use mathlib.Core.List.{List, [], ◌∷◌, ◌++◌, append_assoc}
+use Prim.Native.Nat.{ℕ, suc, ◌+◌, ◌*◌}
 use native.Mathlib.Omega.{arith}
-use lib.ListN.{length, length-append}
-use Rattle.language.specs.Tree.{Place, Name, Ty, Unary, Binary, Expr, Args, Stmt, Block, Param, Item}
+use lib.ListN.{length}
+use Rattle.language.specs.Tree.{Place, Name, Binary, Expr, Args, Stmt, Block, Param, Item}
 use Rattle.grammar.specs.Parse.{Tail, grow}
-use Rattle.grammar.specs.Flat.{item, words_per_item, size, sizes, expr_words, args_words, right_words, tail_words, arg_count, header, run_words, stmt_words, block_words, params_words, type_number, item_words, items_words, strict_number, number_item, name_item, element_item, call_item, unary_item, unary_number, strict_item, and_item, or_item, join_item}
+use Rattle.grammar.specs.Flat.{item, words_per_item, size, sizes, expr_words, args_words, right_words, tail_words, arg_count, header, run_words, stmt_words, block_words, params_words, type_number, item_words, items_words, strict_number, element_item, call_item, unary_item, unary_number, strict_item, and_item, or_item, join_item}
 
 abbrev pub Linear : (List ℕ → List ℕ) → Type 0
 Linear w = (more : List ℕ) → w more ≡ w [] ++ more

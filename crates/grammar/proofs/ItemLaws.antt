@@ -1,25 +1,24 @@
 -- Each way through the functions of arrays and functions is a clause of the parser.
-use mathlib.Core.Path.{◌≡◌, refl, sym, ap, subst, ◌∙◌}
-use mathlib.Core.Bool.{Bool, true, false}
-use mathlib.Core.List.{List, [], ◌∷◌, ◌++◌, append_assoc, append-nil}
+use mathlib.Core.Path.{◌≡◌, refl, sym, ap, ◌∙◌}
+use mathlib.Core.Bool.{Bool}
+use mathlib.Core.List.{List, [], ◌∷◌}
 use mathlib.Core.Option.{Option}
-use Prim.Native.Nat.{ℕ, zero, suc, ◌+◌, ◌*◌, ◌-◌, ◌/◌, ◌≤◌, ◌<◌}
+use Prim.Native.Nat.{ℕ, zero, suc, ◌+◌, ◌-◌, ◌≤◌, ◌<◌}
 use native.Mathlib.Omega.{arith}
-use lib.Dec.{ltb, eqb}
-use lib.ListN.{length, length-append}
+use lib.Dec.{eqb}
+use lib.ListN.{length}
 use lib.Seq.{sets}
 use borrow.Author.Tests.{eq-eqb, ne_eqb}
 use Rattle.word.specs.Choice.{pick}
-use Rattle.language.specs.Tree.{Place, Name, Ty, Block, Param, Item}
-use Rattle.language.specs.Tokens.{Word, Sign, Placed}
+use Rattle.language.specs.Tree.{Param, Item}
 use Rattle.tokens.specs.Kinds.{sign_kind, word_kind}
-use Rattle.grammar.specs.Parse.{Out, Out.ok, Out.bad, next, map, kind_in, place_in, name_in, number_in, kind, type_of, typed_of, block_of, param_of, param_list_of, params_of, result_of, size_of, array_of, body_of, function_of, item_of, items_of}
-use Rattle.grammar.specs.Flat.{header, block_words, count, type_number, result_number, params_words, item_words, items_words}
+use Rattle.grammar.specs.Parse.{Out, Out.ok, Out.bad, next, map, place_in, name_in, number_in, kind, type_of, typed_of, block_of, param_of, param_list_of, params_of, result_of, size_of, array_of, body_of, function_of, item_of, items_of}
+use Rattle.grammar.specs.Flat.{block_words, result_number, params_words, item_words, items_words}
 use Rattle.grammar.specs.Told.{Row, field_of, Holds, Form, Says, Found, Told, Room, type_form, result_form, size_form, param_form, params_form, block_form, item_form, items_form}
 use Rattle.grammar.specs.declared.Got.{Got}
 use Rattle.grammar.specs.declared.Got.TheVariants.{Done, Fault}
-use Rattle.grammar.proofs.FlatLaws.{params_linear, block_linear, item_linear}
-use Rattle.grammar.proofs.Steps.{hit, miss, found, fault, same, leaf, close, front, recast, after, front_two, Going, begun, goes_done, goes_fault, goes_on, map_id, kind_is, kind_not, kind_eq, name_length, number_is, place_is}
+use Rattle.grammar.proofs.FlatLaws.{params_linear, item_linear}
+use Rattle.grammar.proofs.Steps.{fault, same, leaf, close, recast, front_two, Going, goes_done, goes_fault, goes_on, kind_is, kind_not, kind_eq, name_length, number_is, place_is}
 use Rattle.grammar.proofs.StmtLaws.{typed_name}
 
 -- room after a function's parameters

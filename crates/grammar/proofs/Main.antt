@@ -2,13 +2,12 @@
 use mathlib.Core.Path.{◌≡◌, refl, sym, ap, ◌∙◌}
 use mathlib.Core.Logic.{◌↔◌}
 use mathlib.Core.List.{List}
-use mathlib.Core.Option.{Option}
 use Prim.Native.Nat.{ℕ, ◌≤◌}
 use native.Mathlib.Omega.{arith}
 use lib.ListN.{length}
 use Rattle.language.specs.Tree.{Place, Item}
 use Rattle.language.specs.Tokens.{Placed, Readable, Answer, Answer.good, Answer.refused, tokens_of}
-use Rattle.language.specs.Grammar.{Program, Parses}
+use Rattle.language.specs.Grammar.{Parses}
 use Rattle.tokens.proofs.Sound.{tokens_sound}
 use Rattle.tokens.proofs.Complete.{tokens_complete}
 use Rattle.tokens.proofs.Room.{tokens_few}

@@ -1,21 +1,20 @@
 -- What the parser reads derives: each clause of it is a constructor of the grammar.
-use mathlib.Core.Path.{◌≡◌, refl, sym, ap, subst, ◌∙◌}
-use mathlib.Core.Bool.{Bool, true, false}
-use mathlib.Core.List.{List, [], ◌∷◌}
+use mathlib.Core.Path.{◌≡◌, refl, subst, ◌∙◌}
+use mathlib.Core.List.{List}
 use mathlib.Core.Option.{Option}
-use Prim.Native.Nat.{ℕ, zero, suc, ◌+◌, ◌*◌, ◌-◌, ◌≤◌, ◌<◌}
+use Prim.Native.Nat.{ℕ, zero, suc, ◌+◌, ◌≤◌, ◌<◌}
 use native.Mathlib.Omega.{arith}
 use native.Mathlib.Decide.{ℕ_discrete}
 use lib.Dec.{ltb, eqb}
 use lib.ListN.{length}
-use borrow.Author.Tests.{eqb-true, eqb-false, ltb-true, ltb-false}
+use borrow.Author.Tests.{eqb-true, ltb-true, ltb-false}
 use Rattle.word.specs.Choice.{pick}
-use Rattle.language.specs.Tree.{Place, Name, Ty, Unary, Binary, Expr, Args, Stmt, Block, Param, Item}
-use Rattle.language.specs.Tokens.{Word, Sign, Token, Placed, placed, In}
+use Rattle.language.specs.Tree.{Ty, Unary, Expr, Args, Stmt, Block, Param, Item}
+use Rattle.language.specs.Tokens.{Word, Sign, Token, Placed, In}
 use Rattle.language.specs.Grammar.{op, operators, unaries, most_open, expr_level, comp_level, unary_level, nth, At, Has, HasSign, HasWord, IsExpr, IsRest, IsArgs, IsExprs, IsType, IsStmt, IsStmts, IsBlock, IsParam, IsParamList, IsParams, IsResult, IsItem, IsItems, Program}
-use Rattle.tokens.specs.Kinds.{sign_kind, word_kind}
+use Rattle.tokens.specs.Kinds.{sign_kind}
 use Rattle.tokens.proofs.Lists.{pick_g}
-use Rattle.grammar.specs.Parse.{Out, Out.ok, Out.bad, next, map, kind_in, place_in, name_in, number_in, kind, place_of, name_at, number_at, is_sign, is_word, is_name, is_number, level_of, means_of, many, most, Tail, Tail.done, Tail.more, grow, expr_steps, block_steps, expect, opening}
+use Rattle.grammar.specs.Parse.{Out, Out.ok, Out.bad, next, map, kind, place_of, name_at, number_at, is_sign, is_word, is_name, is_number, level_of, means_of, many, most, Tail, grow, expr_steps, block_steps, expect, opening}
 use Rattle.grammar.specs.Parse.{rest_of, exprs_of, args_of, arguments_of, enclosed_of, named_of, unary_of, primary_of, levelled, expr_of, index_of, call_of, ended_of, type_of, typed_of, declare_of, assign_of, store_of, run_of, change_of, return_of, emit_of, while_of, else_of, if_of, stmt_of, stmts_of, block_of, param_of, param_list_of, params_of, result_of, size_of, array_of, body_of, function_of, item_of, items_of, program_of}
 use Rattle.grammar.proofs.TokenKinds.{sign_at, word_at, name_at_lem, number_at_lem, has, Row, row_found}
 

@@ -1,17 +1,17 @@
 -- Laws of the promises: what a part gives, and how parts make a whole.
 use mathlib.Core.Path.{◌≡◌, refl, sym, ap, subst, ◌∙◌}
-use mathlib.Core.Bool.{Bool, true, false}
-use mathlib.Core.List.{List, [], ◌∷◌, ◌++◌, append_assoc, append-nil}
+use mathlib.Core.Bool.{true, false}
+use mathlib.Core.List.{List, [], ◌++◌, append_assoc}
 use mathlib.Core.Option.{Option}
-use Prim.Native.Nat.{ℕ, zero, suc, ◌+◌, ◌*◌, ◌-◌, ◌≤◌, ◌<◌}
+use Prim.Native.Nat.{ℕ, ◌+◌, ◌*◌, ◌≤◌, ◌<◌}
 use native.Mathlib.Omega.{arith}
-use lib.Dec.{ltb, eqb}
+use lib.Dec.{eqb}
 use lib.ListN.{length, length-append}
-use lib.Seq.{sets, length-sets}
+use lib.Seq.{sets}
 use borrow.Author.Tests.{eq-eqb, ne_eqb}
-use Rattle.language.specs.Tokens.{Token, Placed}
-use Rattle.tokens.specs.Kinds.{kind_of, value_of}
-use Rattle.grammar.specs.Parse.{Out, Out.ok, Out.bad, next, map, kind_in, place_in, name_in, name_of, number_in, number_of, kind, many}
+use Rattle.language.specs.Tokens.{Placed}
+use Rattle.tokens.specs.Kinds.{value_of}
+use Rattle.grammar.specs.Parse.{Out, Out.ok, Out.bad, next, map, kind_in, place_in, name_in, name_of, number_in, number_of, kind}
 use Rattle.grammar.specs.Told.{Row, field_of, value_in, Holds, Form, Says, Found, Told, Room}
 use Rattle.grammar.specs.declared.Got.{Got}
 use Rattle.grammar.specs.declared.Got.TheVariants.{Done, Fault}

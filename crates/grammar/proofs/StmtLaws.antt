@@ -1,27 +1,24 @@
 -- Each way through the functions of statements is a clause of the parser.
-use mathlib.Core.Path.{◌≡◌, refl, sym, ap, subst, ◌∙◌}
-use mathlib.Core.Bool.{Bool, true, false}
-use mathlib.Core.List.{List, [], ◌∷◌, ◌++◌, append_assoc, append-nil}
-use mathlib.Core.Option.{Option}
+use mathlib.Core.Path.{◌≡◌, refl, sym, ap, ◌∙◌}
+use mathlib.Core.Bool.{Bool}
+use mathlib.Core.List.{List, [], ◌∷◌, ◌++◌, append-nil}
 use Prim.Native.Nat.{ℕ, zero, suc, ◌+◌, ◌*◌, ◌-◌, ◌/◌, ◌≤◌, ◌<◌}
 use native.Mathlib.Omega.{arith}
 use lib.Dec.{ltb, eqb}
-use lib.ListN.{length, length-append}
+use lib.ListN.{length}
 use lib.Seq.{sets}
 use Rattle.tokens.proofs.Lists.{pick_g}
-use borrow.Author.Tests.{eqb-true, lt-ltb, le-ltb, eq-eqb, ne_eqb}
+use borrow.Author.Tests.{eqb-true, lt-ltb, le-ltb}
 use Rattle.word.specs.Choice.{pick}
 use Rattle.language.specs.Tree.{Place, Name, Ty, Expr, Args, Stmt, Block}
-use Rattle.language.specs.Tokens.{Word, Sign, Placed}
 use Rattle.tokens.specs.Kinds.{sign_kind, word_kind}
-use Rattle.grammar.specs.Parse.{Out, Out.ok, Out.bad, next, map, kind_in, place_in, name_in, kind, place_of, name_at, levelled, enclosed_of, arguments_of, expr_of, index_of, call_of, ended_of, type_of, typed_of, declare_of, assign_of, store_of, run_of, change_of, return_of, emit_of, while_of, else_of, if_of, stmt_of, stmts_of, block_of}
-use Rattle.grammar.specs.Flat.{item, header, size, sizes, arg_count, expr_words, args_words, expr_length, run_words, stmt_words, block_words, count, declare_kind, type_number}
-use Rattle.grammar.specs.Told.{Row, field_of, Holds, Form, Says, Found, Told, Room, expr_form, args_form, single_form, type_form, stmt_form, block_form}
+use Rattle.grammar.specs.Parse.{Out, Out.ok, Out.bad, next, map, place_in, name_in, kind, levelled, enclosed_of, arguments_of, expr_of, index_of, call_of, ended_of, type_of, typed_of, declare_of, assign_of, store_of, run_of, change_of, return_of, emit_of, while_of, else_of, if_of, stmt_of, stmts_of, block_of}
+use Rattle.grammar.specs.Flat.{size, sizes, arg_count, expr_words, args_words, expr_length, run_words, stmt_words, block_words, count, declare_kind, type_number}
+use Rattle.grammar.specs.Told.{Row, field_of, Holds, Form, Found, Told, Room, expr_form, args_form, single_form, type_form, stmt_form, block_form}
 use Rattle.grammar.specs.declared.Got.{Got}
 use Rattle.grammar.specs.declared.Got.TheVariants.{Done, Fault}
-use Rattle.grammar.proofs.FlatLaws.{expr_linear, args_linear, run_linear, stmt_linear, block_linear, expr_length_lem, args_length}
-use Rattle.grammar.proofs.Steps.{hit, miss, found, fault, same, leaf, close, front, recast, after, front_two, front_three, seq, Going, begun, goes_done, goes_fault, goes_on, map_id, kind_is, kind_not, kind_eq, name_length, place_is}
-use Rattle.grammar.proofs.ExprLaws.{stop, stop_map}
+use Rattle.grammar.proofs.FlatLaws.{expr_linear, args_linear, stmt_linear, block_linear, expr_length_lem, args_length}
+use Rattle.grammar.proofs.Steps.{fault, same, leaf, close, front, recast, after, front_two, front_three, Going, goes_done, goes_fault, goes_on, map_id, kind_is, kind_not, kind_eq, name_length, place_is}
 
 -- items of so many words
 quarter : (w s : ℕ) → w ≡ 4 * s + 0 → w / 4 ≡ s

@@ -1,10 +1,8 @@
 -- The operators' table by kinds: what src/operators.rt has in arrays.
 use mathlib.Core.Path.{◌≡◌, refl, sym, ap, ◌∙◌}
-use mathlib.Core.Bool.{Bool, true, false}
 use mathlib.Core.List.{List, [], ◌∷◌}
 use Prim.Native.Nat.{ℕ, zero, suc, ◌+◌, ◌≤◌, ◌<◌}
 use native.Mathlib.Omega.{arith}
-use lib.Dec.{eqb}
 use lib.ListN.{get_or}
 use borrow.Author.Tests.{ne_eqb}
 use Rattle.language.specs.Tree.{Binary}

@@ -1,17 +1,16 @@
 -- A token is known by its kind's number: kinds are numbered one to one, apart from what names and numbers carry.
 use mathlib.Core.Path.{◌≡◌, refl, sym, ap, subst, ◌∙◌}
-use mathlib.Core.Bool.{Bool, true, false}
+use mathlib.Core.Bool.{true, false}
 use mathlib.Core.List.{List, [], ◌∷◌}
 use mathlib.Core.Option.{Option, map, some-injective}
-use Prim.Native.Nat.{ℕ, zero, suc, ◌+◌, ◌≤◌, ◌<◌}
+use Prim.Native.Nat.{ℕ, ◌≤◌, ◌<◌}
 use native.Mathlib.Omega.{arith}
 use lib.Dec.{eqb}
 use native.Mathlib.Decide.{dec_lt}
 use lib.ListN.{length, get_or, get_or-eq_default}
-use borrow.Author.Tests.{eqb-true, eqb-false, eq-eqb, ne_eqb}
-use Rattle.word.specs.Choice.{pick}
-use Rattle.language.specs.Tree.{Place, Name, Binary}
-use Rattle.language.specs.Tokens.{Word, Sign, Token, Placed, placed, In, In.here, In.there}
+use borrow.Author.Tests.{eqb-true}
+use Rattle.language.specs.Tree.{Place, Binary}
+use Rattle.language.specs.Tokens.{Word, Sign, Token, Placed, placed, In}
 use Rattle.language.specs.Grammar.{Operator, op, operators}
 use Rattle.tokens.specs.Kinds.{sign_kind, word_kind, kind_of}
 use Rattle.tokens.proofs.Lists.{pick_g}

@@ -1,33 +1,28 @@
 -- From the promises of the parts to the promise of the whole.
 use mathlib.Core.Path.{◌≡◌, refl, sym, ap, subst, ◌∙◌}
-use mathlib.Core.Bool.{Bool, true, false}
 use mathlib.Core.List.{List, [], ◌∷◌}
 use mathlib.Core.Option.{Option}
-use mathlib.Core.Logic.{◌⊎◌, inl, inr}
 use Prim.Native.Nat.{ℕ, zero, suc, ◌+◌, ◌*◌, ◌≤◌, ◌<◌}
 use native.Mathlib.Omega.{arith}
 use native.Mathlib.Decide.{dec_lt}
-use lib.Dec.{ltb}
 use lib.ListN.{length, get_or}
-use lib.Seq.{sets, length-sets}
+use lib.Seq.{sets}
 use borrow.Author.Tests.{lt-ltb, le-ltb}
-use Rattle.word.specs.Choice.{pick}
-use Rattle.language.specs.Tree.{Place, Item}
-use Rattle.language.specs.Tokens.{Token, Placed, Readable, Answer, Answer.good, Answer.refused, tokens_of}
-use Rattle.language.specs.Grammar.{nth, Parses}
-use Rattle.tokens.specs.Kinds.{flat, kind_of, value_of, token_room}
+use Rattle.language.specs.Tree.{Item}
+use Rattle.language.specs.Tokens.{Placed, Answer.good, Answer.refused}
+use Rattle.language.specs.Grammar.{nth}
+use Rattle.tokens.specs.Kinds.{flat, token_room}
 use Rattle.tokens.specs.Told.{ReadWell}
 use Rattle.tokens.specs.Told as T
 use Rattle.tokens.specs.declared.Outcome.{Outcome}
 use Rattle.tokens.specs.declared.Outcome.TheVariants.{Read, Refused}
 use Rattle.tokens.specs.declared.Outcome.TheVariants as O
-use Rattle.tokens.proofs.Room.{tokens_few, kind_at, place_at, value_at_lem}
+use Rattle.tokens.proofs.Room.{kind_at, place_at, value_at_lem}
 use Rattle.grammar.specs.Parse.{Out, Out.ok, Out.bad, kind_in, place_in, items_of, program_of, fault_at, answer_of, tree_in, tree_of}
-use Rattle.grammar.specs.Flat.{tree_words, items_words, tree_room}
+use Rattle.grammar.specs.Flat.{tree_words}
 use Rattle.grammar.specs.Told.{Row, field_of, value_in, Holds, Says, Found, Room, items_form}
-use Rattle.grammar.specs.Answers.{Good, Bad, Answers}
-use Rattle.grammar.specs.declared.Parsed.{Parsed}
-use Rattle.grammar.specs.declared.Parsed.TheVariants.{Tree, Unreadable, NoRoom}
+use Rattle.grammar.specs.Answers.{Answers}
+use Rattle.grammar.specs.declared.Parsed.TheVariants.{Tree, Unreadable}
 use Rattle.grammar.proofs.Complete.{past}
 use Rattle.grammar.proofs.Main.{few, tree_sound, refused_none}
 

@@ -1,12 +1,11 @@
 -- Runs of stores: one after another, one before another.
 use mathlib.Core.Path.{◌≡◌, refl, sym, ap, ◌∙◌}
 use mathlib.Core.List.{List, [], ◌∷◌, ◌++◌}
-use Prim.Native.Nat.{ℕ, zero, suc, ◌+◌, ◌≤◌, ◌<◌}
+use Prim.Native.Nat.{ℕ, suc, ◌+◌, ◌<◌}
 use native.Mathlib.Omega.{arith}
 use native.Mathlib.Nat.{add-suc, suc-add, add-zero}
-use native.Mathlib.Numerals.{unary_clauses}
 use lib.ListN.{length, set}
-use lib.Seq.{sets, length-sets, set_comm, set-set}
+use lib.Seq.{sets, set_comm}
 
 pub sets_append : (l : List ℕ) (i : ℕ) (a b : List ℕ) → sets (sets l i a) (i + length a) b ≡ sets l i (a ++ b)
 sets_append l i [] b = ap (λ (k : ℕ). sets l k b) (add-zero i)

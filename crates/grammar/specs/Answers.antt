@@ -2,7 +2,7 @@
 use Rattle.std.specs.Prelude.{◌≡◌, List, ◌⊎◌, ℕ, ◌<◌, length}
 use Rattle.std.proofs.lemmas.List.Edits.{sets}
 use Rattle.language.specs.Tree.{Item}
-use Rattle.language.specs.Tokens.{Answer, Answer.good, Answer.refused}
+use Rattle.language.specs.Tokens.{Answer.good, Answer.refused}
 use Rattle.language.specs.Grammar.{Parses}
 use Rattle.tokens.specs.Kinds.{token_room}
 use Rattle.grammar.specs.Parse.{tree_of}

@@ -1,6 +1,6 @@
 -- The tree of a text as words: operands before what is done with them, blocks in the statements that hold them. One forward pass reads it.
 -- A name is its place and its length: its bytes stand in the text. Each kind has a number here; src/ names the same numbers.
-use Rattle.std.specs.Prelude.{Bool, true, false, List, [], ◌∷◌, ℕ, zero, suc, ◌+◌, ◌*◌, length}
+use Rattle.std.specs.Prelude.{Bool, true, false, List, [], ◌∷◌, ℕ, suc, ◌+◌, length}
 use Rattle.std.proofs.Math.Option.{Option}
 use Rattle.language.specs.Tree.{Place, Name, Ty, Unary, Strict, Binary, Expr, Args, Stmt, Block, Param, Item}
 use Rattle.grammar.specs.Parse.{Tail}

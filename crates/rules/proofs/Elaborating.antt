@@ -1,17 +1,14 @@
 -- What a scan gives is what elaboration gives.
 use mathlib.Core.Path.{◌≡◌, refl, sym, ap, subst, ◌∙◌}
-use mathlib.Core.List.{List, [], ◌∷◌, ◌++◌}
-use Prim.Native.Nat.{ℕ, zero, suc, ◌+◌, ◌<◌, ◌^◌}
+use mathlib.Core.List.{List}
+use Prim.Native.Nat.{ℕ, ◌<◌, ◌^◌}
 use native.Mathlib.Omega.{arith}
-use lib.ListN.{length, get_or}
+use lib.ListN.{get_or}
 use lib.Seq.{sets}
 use Rattle.language.specs.Tree.{Place, Ty}
 use Rattle.language.specs.Tree as T
-use Rattle.language.specs.Rules.{Ruled, keeps, breaks, ◌>>=◌, Global, Local, Typed, expr}
+use Rattle.language.specs.Rules.{Ruled, keeps, breaks, ◌>>=◌, Global, Local, expr}
 use Rattle.grammar.specs.Flat as G
-use Rattle.flat.specs.Items.{code}
-use Rattle.flat.specs.Words.{items_words}
-use Rattle.rules.specs.Tables.{type_of}
 use Rattle.rules.specs.Named.{NamedExpr}
 use Rattle.rules.specs.Scan.{Operand, no_operand, Scanned, scan}
 use Rattle.rules.specs.declared.Out.{Out}

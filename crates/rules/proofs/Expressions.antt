@@ -3,27 +3,26 @@ use mathlib.Core.Path.{◌≡◌, refl, sym, ap, ◌∙◌}
 use mathlib.Core.Bool.{Bool, true, false}
 use mathlib.Core.List.{List, [], ◌∷◌, ◌++◌, append_assoc, append-nil}
 use mathlib.Core.Option.{Option, none, some}
-use Prim.Native.Nat.{ℕ, zero, suc, ◌+◌, ◌-◌, ◌<◌, ◌≤◌, ◌^◌}
+use Prim.Native.Nat.{ℕ, suc, ◌+◌, ◌-◌, ◌<◌, ◌≤◌, ◌^◌}
 use native.Mathlib.Omega.{arith}
-use lib.Dec.{leb, eqb}
 use lib.ListN.{length, get_or, drop}
 use borrow.Author.Tests.{le-leb, ne_eqb}
-use Rattle.word.specs.Choice.{pick, both}
+use Rattle.word.specs.Choice.{both}
 use Rattle.language.specs.Tree.{Place, Name, Ty, int, bool, Unary, Strict, eq, ne, lt, le, gt, ge, add, sub, mul, div, rem, Binary}
 use Rattle.language.specs.Tree as T
 use Rattle.language.specs.Core.{Array}
 use Rattle.language.specs.Core as C
-use Rattle.language.specs.Rules.{Ruled, keeps, breaks, ◌>>=◌, need, found, Global, Local, Signature, Thing, an_array, a_function, Typed, same_ty, global_of, local_of, is_array, is_function, and_then, array_of, function_of, want, changed, joined, combined, indexed, fit, called, known, expr, exprs, truth_of}
+use Rattle.language.specs.Rules.{Ruled, keeps, ◌>>=◌, need, found, Global, Local, Signature, Thing, an_array, a_function, Typed, same_ty, global_of, local_of, is_array, is_function, and_then, array_of, function_of, want, changed, joined, combined, indexed, fit, called, known, expr, exprs, truth_of}
 use Rattle.grammar.specs.Flat as G
 use Rattle.flat.specs.Items as I
 use Rattle.flat.specs.Items.{Item, item, code, codes}
 use Rattle.flat.specs.Words.{items_words, kind_words}
 use Rattle.flat.specs.Words as F
-use Rattle.rules.specs.Tables.{part, same_types}
+use Rattle.rules.specs.Tables.{same_types}
 use Rattle.rules.specs.Named.{Stands, NamedExpr, NamedArgs}
-use Rattle.rules.specs.Scan.{Operand, Node, Scanned, no_operand, upper, lower, uppermost, sole, leaf, name_node, element_node, unary_node, strict_node, mark_node, join_node, first_start, call_node, called_node, nodes, node_of, charged, added, scan}
+use Rattle.rules.specs.Scan.{Operand, Node, Scanned, no_operand, upper, uppermost, sole, leaf, name_node, element_node, unary_node, strict_node, mark_node, join_node, first_start, call_node, called_node, node_of, charged, added, scan}
 use Rattle.rules.proofs.Kept.{assoc, ext, ext_all}
-use Rattle.rules.proofs.Sizes.{args_of, types_of, Sized, SizedAll, sized, sized_all}
+use Rattle.rules.proofs.Sizes.{args_of, types_of, sized, sized_all}
 use Rattle.rules.proofs.Coding.{items_append, code_append, charged_here, charged_codes, grown}
 
 -- an expression scanned: one operand more, and its items

@@ -1,8 +1,7 @@
 -- Laws of sequences of rules, and facts of all that a part gives where it keeps the rules.
 use mathlib.Core.Path.{◌≡◌, refl, sym, subst}
-use mathlib.Core.Bool.{Bool, true, false}
 use Rattle.language.specs.Tree.{Place}
-use Rattle.language.specs.Rules.{Ruled, keeps, breaks, ◌>>=◌, need}
+use Rattle.language.specs.Rules.{Ruled, keeps, breaks, ◌>>=◌}
 
 pub assoc : {A B C : Type 0} (m : Ruled A) (f : A → Ruled B) (g : B → Ruled C) → (m >>= f) >>= g ≡ m >>= λ a. f a >>= g
 unfolding ◌>>=◌

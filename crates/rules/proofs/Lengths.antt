@@ -1,11 +1,9 @@
 -- How many words and items there are: a tree's expression and its core have equally many.
-use mathlib.Core.Path.{◌≡◌, refl, sym, ap, ◌∙◌}
-use mathlib.Core.List.{List, [], ◌∷◌, ◌++◌}
-use Prim.Native.Nat.{ℕ, zero, suc, ◌+◌, ◌*◌, ◌≤◌, ◌<◌}
+use mathlib.Core.Path.{◌≡◌, ap, ◌∙◌}
+use mathlib.Core.List.{List}
+use Prim.Native.Nat.{ℕ, suc, ◌+◌, ◌*◌}
 use native.Mathlib.Omega.{arith}
-use native.Mathlib.Nat.{add-suc, suc-add, add-zero}
-use lib.ListN.{length, set}
-use lib.Seq.{sets, set_comm}
+use lib.ListN.{length}
 use Rattle.language.specs.Tree.{Binary}
 use Rattle.language.specs.Tree as T
 use Rattle.language.specs.Core as C

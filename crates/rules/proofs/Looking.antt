@@ -1,6 +1,6 @@
 -- Names and types compared one by one, and entries looked at from the last down.
 use mathlib.Core.Path.{◌≡◌, refl, sym, ap, ◌∙◌}
-use mathlib.Core.List.{List, [], ◌∷◌}
+use mathlib.Core.List.{List}
 use mathlib.Core.Bool.{Bool, true, false, not}
 use mathlib.Core.Option.{some}
 use Prim.Native.Nat.{ℕ, zero, suc, ◌+◌, ◌-◌, ◌*◌, ◌≤◌, ◌<◌}
@@ -9,8 +9,8 @@ use lib.ListN.{get_or}
 use lib.Dec.{eqb}
 use borrow.Author.Tests.{eq-eqb, ne_eqb}
 use Rattle.word.specs.Choice.{pick, both}
-use Rattle.language.specs.Tree.{Name, Ty, int, bool}
-use Rattle.language.specs.Rules.{same_ty, Local, Global, local_of, global_of}
+use Rattle.language.specs.Tree.{Name, int, bool}
+use Rattle.language.specs.Rules.{same_ty, local_of, global_of}
 use Rattle.language.specs.Tokens.{same}
 use Rattle.rules.specs.Tables.{part, type_of, types_from, same_types, local_at, locals_in, global_at, globals_in}
 use Rattle.rules.specs.Post.{local_entry, FindsLocal, global_entry, FindsGlobal}

@@ -10,8 +10,8 @@ use lib.Dec.{eqb, ltb}
 use lib.ListN.{length, get_or, get_or-eq_default}
 use borrow.Author.Tests.{eq-eqb, ne_eqb, lt-ltb, le-ltb, le-leb, lt-leb}
 use Rattle.word.specs.Choice.{pick, both}
-use Rattle.language.specs.Tree.{Name, Ty, int, bool}
-use Rattle.language.specs.Rules.{same_ty, Local, Global, Signature, local_of, global_of, and_then, is_array, is_function}
+use Rattle.language.specs.Tree.{Ty, int, bool}
+use Rattle.language.specs.Rules.{same_ty, Local, Global, Signature, global_of, and_then, is_function}
 use Rattle.rules.specs.Tables.{word, part, type_of, result_of, types_from, same_types, local_at, locals_in, global_at, globals_in, signature, thing_at}
 use Rattle.rules.specs.Scan.{Operand, no_operand, Node, sole, leaf, name_node, element_node, unary_node, strict_node, mark_node, join_node, uppermost, first_start, function_named, call_node, called_node, nodes, node_of}
 use Rattle.rules.specs.Post.{local_entry, FindsLocal, global_entry, FindsGlobal, operands_in, callee_of, Tops}

@@ -2,18 +2,14 @@
 use mathlib.Core.Path.{◌≡◌, refl, sym, ap, ◌∙◌}
 use mathlib.Core.Bool.{Bool, true, false}
 use mathlib.Core.List.{List, [], ◌∷◌, ◌++◌}
-use mathlib.Core.Option.{Option, none, some}
 use Prim.Native.Nat.{ℕ, zero, suc, ◌+◌, ◌-◌, ◌*◌, ◌≤◌, ◌<◌}
-use native.Mathlib.Numerals.{unary_clauses}
 use native.Mathlib.Omega.{arith}
 use lib.ListN.{length, get_or, drop, length-append, length-set}
-use lib.Seq.{drop-cons, drop-drop, length-sets, sets}
-use Rattle.language.specs.Rules.{Ruled, keeps, breaks, ◌>>=◌, found, Global, Local}
-use Rattle.rules.specs.Tables.{word, type_of}
-use Rattle.rules.specs.Scan.{Operand, Node, Scanned, node_of, charged, added, scan}
-use Rattle.rules.specs.declared.Out.{Out}
+use lib.Seq.{drop-cons, length-sets, sets}
+use Rattle.language.specs.Rules.{keeps, breaks, ◌>>=◌, found, Global, Local}
+use Rattle.rules.specs.Scan.{Scanned, node_of, charged, added, scan}
 use Rattle.rules.specs.declared.Out.TheVariants.{Done, Broken}
-use Rattle.rules.specs.Post.{operands_in, Pushes, Charges, made, Reads, Room, nothing_scanned, Wrote, Scans, most_words, most_places}
+use Rattle.rules.specs.Post.{operands_in, Pushes, Charges, made, Reads, nothing_scanned, Scans}
 use Rattle.rules.proofs.Stacks.{sets_append}
 
 -- four words of a list, and those after them

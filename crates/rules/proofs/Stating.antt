@@ -7,10 +7,10 @@ use Prim.Native.Nat.{ℕ, zero, suc, ◌+◌, ◌-◌, ◌*◌, ◌≤◌, ◌<�
 use native.Mathlib.Numerals.{add-one}
 use native.Mathlib.Omega.{arith}
 use native.Mathlib.Nat.{add-suc, suc-add, add-zero}
-use lib.Dec.{eqb, ltb, leb}
+use lib.Dec.{eqb}
 use lib.ListN.{length, get_or, set}
-use lib.Seq.{sets, set_comm}
-use borrow.Author.Tests.{eq-eqb, ne_eqb, lt-ltb, le-ltb}
+use lib.Seq.{sets}
+use borrow.Author.Tests.{ne_eqb, lt-ltb, le-ltb}
 use Rattle.language.specs.Tree.{Place, Ty, int, bool}
 use Rattle.language.specs.Tree as T
 use Rattle.language.specs.Core as C
@@ -25,7 +25,6 @@ use Rattle.rules.specs.declared.Given.{Given}
 use Rattle.rules.specs.declared.Given.TheVariants as Is
 use Rattle.rules.specs.declared.Step.TheVariants as To
 use Rattle.rules.specs.Post.{FindsLocal, local_entry, FindsGlobal, global_entry, Enters, Freshly, Leaves, TypedAs, ExprCase, Elaborates, scope_of, Stated, States}
-use Rattle.rules.proofs.Kept.{All}
 use Rattle.rules.proofs.Sizes.{sized}
 use Rattle.rules.proofs.Lengths.{expr_words_lem, code_length}
 use Rattle.rules.proofs.Making.{entry_local, entry_global}

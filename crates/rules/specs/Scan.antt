@@ -5,7 +5,6 @@ use Rattle.std.proofs.Math.Option.{Option, none, some}
 use Rattle.word.specs.Choice.{pick, both}
 use Rattle.word.specs.Word.{add_w}
 use Rattle.language.specs.Tree.{Ty, int, bool}
-use Rattle.language.specs.Core.{Array}
 use Rattle.language.specs.Rules.{Ruled, keeps, breaks, ◌>>=◌, found, Global, Local, Signature, global_of, local_of, is_array, is_function, and_then, same_ty}
 use Rattle.rules.specs.Tables.{word, part, same_types}
 

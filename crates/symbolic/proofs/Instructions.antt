@@ -20,7 +20,7 @@ use Rattle.processor.specs.Machine as R
 use Rattle.processor.specs.Machine.{Machine}
 use Rattle.processor.specs.Execute as E
 use Rattle.processor.specs.Execute.{alu_of, cond_of, reaches, read_at, write_at, wrote, stored, logged, halt, next, load_of, store_of, call_of, exec_of}
-use Rattle.symbolic.specs.Symbolic.{Reg, reg, number, ra, request, answer, Instruction, lui, opi, shift, mv, op, lw, sw, branch, branch_back, jump, jump_back, call, ret, ecall, bad, State, value, pos, position_of, quit, goto, puts, stores, logs, ecall_of, exec1}
+use Rattle.symbolic.specs.Symbolic.{Reg, number, ra, request, answer, Instruction, lui, opi, shift, mv, op, lw, sw, branch, branch_back, jump, jump_back, call, ret, ecall, bad, State, value, pos, position_of, quit, goto, puts, stores, logs, ecall_of, exec1}
 use Rattle.symbolic.specs.Real.{distance, real}
 use Rattle.symbolic.specs.Fine.{Valid, Fine, most_instructions}
 use Rattle.symbolic.proofs.Operations.{alu_lt}

@@ -2,20 +2,19 @@
 use mathlib.Core.Path.{◌≡◌, refl, sym, ap, subst, ◌∙◌}
 use mathlib.Core.Bool.{Bool, true, false, not}
 use mathlib.Core.List.{List, [], ◌∷◌, ◌++◌}
-use mathlib.Core.Option.{Option, none, some, some-injective}
-use mathlib.Core.Logic.{◌⊎◌, inl, inr, ⊎_elim}
-use Prim.Native.Nat.{ℕ, zero, suc, ◌+◌, ◌-◌, ◌≤◌, ◌<◌}
+use mathlib.Core.Option.{Option, none, some}
+use mathlib.Core.Logic.{◌⊎◌, ⊎_elim}
+use Prim.Native.Nat.{ℕ, suc, ◌+◌, ◌≤◌}
 use Prim.Native.String.{String}
 use native.Mathlib.Omega.{arith}
-use lib.Dec.{leb, eqb}
 use lib.ListN.{length, drop, get_or}
 use lib.Seq.{drop-append_seam}
 use borrow.Author.Tests.{eqb-true, le-leb, leb-true}
-use Rattle.word.specs.Choice.{pick, both, either}
+use Rattle.word.specs.Choice.{both}
 use Rattle.language.specs.Tree.{Place}
 use Rattle.language.specs.Tokens.{Word, Sign, Token, Placed, placed, In, bytes, words, signs, is, allowed, is_blank, in_comment, is_letter, is_digit, in_name, all, starts, same, begins, unpadded, decimal, longest_text, longest_name, largest_number}
-use Rattle.language.specs.Tokens.{Spells, Comment, Reads, Readable, Answer, Answer.good, Answer.refused, Found, span, find, or_name, name_at, number_at, as_sign, token_at, also, and_then, read_from, tokens_of}
-use Rattle.tokens.proofs.Lists.{clash, both_true, span_append, starts_append, same_eq, same_refl, begins_append, begins_one, Hit, find_hit, Longest, find_longest}
+use Rattle.language.specs.Tokens.{Spells, Comment, Reads, Readable, Answer.good, span, find, or_name, name_at, number_at, as_sign, token_at, also, read_from, tokens_of}
+use Rattle.tokens.proofs.Lists.{clash, both_true, span_append, starts_append, same_eq, begins_append, begins_one, Hit, find_hit, Longest, find_longest}
 use Rattle.tokens.proofs.Tables.{Plain, letter_plain, digit_plain, digit_letter, name_end, word_row, WordRow, SignFirst, sign_first, sign_only, signs_sorted}
 use Rattle.tokens.proofs.Steps.{read_blank, read_comment, read_token}
 

@@ -1,22 +1,20 @@
 -- The loop over a text: what was written so far, and what is left to read.
 use mathlib.Core.Path.{◌≡◌, refl, sym, ap, subst, ◌∙◌}
-use mathlib.Core.Bool.{Bool, true, false, not}
-use mathlib.Core.List.{List, [], ◌∷◌, ◌++◌, append-nil}
-use mathlib.Core.Option.{Option, none, some}
-use Prim.Native.Nat.{ℕ, zero, suc, ◌+◌, ◌*◌, ◌-◌, ◌≤◌, ◌<◌}
+use mathlib.Core.Bool.{true, false}
+use mathlib.Core.List.{List, [], ◌∷◌, ◌++◌}
+use mathlib.Core.Option.{none, some}
+use Prim.Native.Nat.{ℕ, suc, ◌+◌, ◌*◌, ◌-◌, ◌≤◌, ◌<◌}
 use native.Mathlib.Omega.{arith}
 use native.Mathlib.Nat.{add-suc, suc-add, add-zero}
 use lib.ListN.{length, length-append, length-drop, get_or, drop, drop_of_length-le}
 use lib.Seq.{sets, length-sets, drop-cons, drop-drop}
 use borrow.Author.Tests.{le-leb, lt-leb}
-use Rattle.word.specs.Choice.{pick}
 use Rattle.language.specs.Tree.{Place}
-use Rattle.language.specs.Tokens.{Token, Placed, placed, Readable, Answer, Answer.good, Answer.refused, Found, is, is_blank, in_comment, span, token_at, also, read_from, tokens_of, longest_text}
+use Rattle.language.specs.Tokens.{Token, Placed, placed, Answer, Answer.good, Answer.refused, Found, is, is_blank, in_comment, span, token_at, also, read_from, tokens_of, longest_text}
 use Rattle.tokens.specs.Kinds.{kind_of, value_of, flat, token_room}
 use Rattle.tokens.specs.Seen.{seen}
-use Rattle.tokens.specs.Told.{ReadWell, Unreadable, Told}
+use Rattle.tokens.specs.Told.{Told}
 use Rattle.tokens.specs.declared.Seen.{Seen}
-use Rattle.tokens.specs.declared.Seen.TheVariants as Seen
 use denote.Enum.Declared.{tag_of}
 use types.Run.{OneOf, miss}
 use Rattle.tokens.specs.declared.Outcome.TheVariants as Outcome

@@ -1,23 +1,22 @@
 -- What stands at byte i, as the code finds it out: a name, a number, a sign.
-use mathlib.Core.Path.{◌≡◌, refl, sym, ap, subst, ◌∙◌}
+use mathlib.Core.Path.{◌≡◌, refl, sym, ap, ◌∙◌}
 use mathlib.Core.Bool.{Bool, true, false, not}
-use mathlib.Core.List.{List, [], ◌∷◌, ◌++◌}
+use mathlib.Core.List.{List, [], ◌∷◌}
 use mathlib.Core.Option.{Option, none, some}
-use Prim.Native.Nat.{ℕ, zero, suc, ◌+◌, ◌*◌, ◌-◌, ◌≤◌, ◌<◌}
+use Prim.Native.Nat.{ℕ, suc, ◌+◌, ◌*◌, ◌-◌, ◌≤◌, ◌<◌}
 use Prim.Native.String.{String}
 use native.Mathlib.Omega.{arith}
 use native.Mathlib.Numerals.{add-one}
-use lib.Dec.{leb, ltb, eqb}
+use lib.Dec.{ltb, eqb}
 use lib.ListN.{length, get_or, take, drop, drop_of_length-le}
 use lib.Seq.{drop-cons, drop-drop, get_or-drop, take-append_seam}
-use borrow.Author.Tests.{eq-eqb, ne_eqb, eqb-true, le-leb, lt-leb, ltb-true, lt-ltb, le-ltb}
-use Rattle.word.specs.Choice.{pick, both, either}
-use Rattle.language.specs.Tokens.{Word, Sign, Token, In, bytes, signs, begins, as_sign, unpadded, decimal, largest_number, all, is_letter, is_digit, in_name, words, starts, same, span, find, or_name, name_at, number_at, token_at}
+use borrow.Author.Tests.{ne_eqb, eqb-true, le-leb, lt-leb, ltb-true, lt-ltb, le-ltb}
+use Rattle.word.specs.Choice.{pick, both}
+use Rattle.language.specs.Tokens.{Word, Sign, In, bytes, signs, begins, as_sign, unpadded, decimal, is_letter, is_digit, in_name, words, starts, same, span, find, or_name, name_at, number_at, token_at}
 use Rattle.tokens.specs.Kinds.{kind_of, value_of, word_kind, sign_kind}
 use Rattle.tokens.specs.Seen.{seen, kind_or_none, sign_in}
 use Rattle.tokens.specs.declared.Seen.{Seen}
-use Rattle.tokens.specs.declared.Seen.TheVariants as Seen
-use Rattle.tokens.proofs.Lists.{clash, span_split, every, every_in, both_true, either_right, Hit, find_hit}
+use Rattle.tokens.proofs.Lists.{span_split, every, every_in, both_true, either_right, Hit, find_hit}
 use Rattle.tokens.proofs.Scan.{starts_at}
 use Rattle.tokens.proofs.Tables.{letter_in}
 

@@ -1,6 +1,6 @@
 -- The front page: what is proved of document 01 §2. `tokens`, in src/lib.rt, computes `tokensOf`; here is that `tokensOf` is what
 -- the relation says.
-use mathlib.Core.Path.{◌≡◌, refl, sym, ◌∙◌}
+use mathlib.Core.Path.{◌≡◌, sym, ◌∙◌}
 use mathlib.Core.Logic.{◌↔◌}
 use mathlib.Core.List.{List}
 use Prim.Native.Nat.{ℕ}

@@ -1,16 +1,16 @@
 -- What a reader of the room finds there: the three words of token i, and a name's bytes in the text.
-use mathlib.Core.Path.{◌≡◌, refl, sym, ap, subst, ◌∙◌}
+use mathlib.Core.Path.{◌≡◌, refl, sym, ap, ◌∙◌}
 use mathlib.Core.List.{List, [], ◌∷◌, ◌++◌}
-use mathlib.Core.Option.{Option, none, some}
-use Prim.Native.Nat.{ℕ, zero, suc, ◌+◌, ◌*◌, ◌-◌, ◌≤◌, ◌<◌}
+use mathlib.Core.Option.{some}
+use Prim.Native.Nat.{ℕ, zero, suc, ◌+◌, ◌*◌, ◌≤◌, ◌<◌}
 use native.Mathlib.Omega.{arith}
 use lib.ListN.{length, length-append, get_or, take, drop}
 use lib.Seq.{sets, sets-eq, drop-append_seam, take-append_seam, drop-drop}
 use Rattle.language.specs.Tree.{Place, Name}
-use Rattle.language.specs.Tokens.{Token, Placed, placed, Spells, Comment, Reads, Readable}
+use Rattle.language.specs.Tokens.{Token, Placed, placed, Spells, Reads, Readable}
 use Rattle.language.specs.Grammar.{nth}
 use Rattle.tokens.specs.Kinds.{kind_of, value_of, flat}
-use Rattle.tokens.proofs.Complete.{First, spells_first}
+use Rattle.tokens.proofs.Complete.{spells_first}
 use Rattle.tokens.proofs.Going.{flat_length}
 
 -- a text has at least as many bytes as tokens

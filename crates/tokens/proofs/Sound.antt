@@ -12,11 +12,11 @@ use lib.ListN.{length, drop}
 use borrow.Author.Tests.{eqb-true, leb-true, not-true, not-false}
 use Rattle.word.specs.Choice.{pick, both, either}
 use Rattle.language.specs.Tree.{Place}
-use Rattle.language.specs.Tokens.{Word, Sign, Token, Placed, placed, In, bytes, words, signs, is, allowed, is_blank, in_comment, is_letter, is_digit, in_name, all, starts, same, begins, unpadded, decimal, longest_text, longest_name, largest_number}
-use Rattle.language.specs.Tokens.{Spells, Comment, Reads, Readable, Answer, Answer.good, Answer.refused, Found, span, find, or_name, name_at, number_at, as_sign, token_at, also, and_then, read_from, tokens_of}
+use Rattle.language.specs.Tokens.{Word, Sign, Token, Placed, placed, bytes, words, signs, is, allowed, is_blank, in_comment, is_letter, is_digit, in_name, all, starts, same, begins, unpadded, decimal, longest_text, longest_name, largest_number}
+use Rattle.language.specs.Tokens.{Spells, Reads, Readable, Answer, Answer.good, Answer.refused, Found, span, find, or_name, name_at, number_at, as_sign, token_at, also, and_then, read_from, tokens_of}
 use lib.Seq.{drop-nil}
 use Rattle.tokens.proofs.Lists.{clash, pick_g, either_true, either_right, both_true, span_all, span_split, span_stops, starts_append, same_eq, same_refl, begins_split, Hit, find_hit, Longest, find_longest}
-use Rattle.tokens.proofs.Tables.{Plain, letter_plain, digit_plain, word_row, WordRow, SignFirst, sign_first, signs_sorted, letter_in, name_end}
+use Rattle.tokens.proofs.Tables.{letter_plain, digit_plain, word_row, SignFirst, sign_first, signs_sorted, letter_in}
 
 -- what was found at the beginning of a text: the bytes before the rest spell it
 pub record TokenThere (text : List ℕ) (f : Token × ℕ) : Type 0 where

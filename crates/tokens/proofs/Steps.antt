@@ -1,14 +1,13 @@
 -- `readFrom` step by step: a blank, a comment, a token, a fault.
-use mathlib.Core.Path.{◌≡◌, refl, sym, ap, subst, ◌∙◌}
-use mathlib.Core.Bool.{Bool, true, false}
-use mathlib.Core.List.{List, [], ◌∷◌, ◌++◌}
-use mathlib.Core.Option.{Option, none, some}
-use Prim.Native.Nat.{ℕ, zero, suc, ◌+◌, ◌-◌, ◌≤◌, ◌<◌}
+use mathlib.Core.Path.{◌≡◌, refl, ap, ◌∙◌}
+use mathlib.Core.Bool.{true, false}
+use mathlib.Core.List.{List, [], ◌∷◌}
+use mathlib.Core.Option.{none, some}
+use Prim.Native.Nat.{ℕ, zero, suc, ◌+◌, ◌-◌, ◌<◌}
 use native.Mathlib.Omega.{arith}
 use lib.ListN.{length, drop}
-use Rattle.word.specs.Choice.{pick}
 use Rattle.language.specs.Tree.{Place}
-use Rattle.language.specs.Tokens.{Token, Placed, placed, Answer, Answer.good, Answer.refused, Found, is, is_blank, in_comment, span, token_at, also, and_then, read_from}
+use Rattle.language.specs.Tokens.{Token, placed, Answer.refused, is, is_blank, in_comment, span, token_at, also, and_then, read_from}
 
 -- bytes that have been read already
 pub read_skip : (k : ℕ) (i : Place) (l : List ℕ) → read_from k i l ≡ read_from 0 (i + k) (drop k l)

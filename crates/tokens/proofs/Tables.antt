@@ -1,18 +1,17 @@
 -- Facts of each row of the two tables, by computation; and which bytes begin what.
-use mathlib.Core.Path.{◌≡◌, refl, sym, ap, subst, ◌∙◌}
+use mathlib.Core.Path.{◌≡◌, refl, sym}
 use mathlib.Core.Bool.{Bool, true, false, not}
-use mathlib.Core.List.{List, [], ◌∷◌, ◌++◌}
-use mathlib.Core.Option.{Option, none, some, some-injective}
-use mathlib.Core.Logic.{◌⊎◌, inl, inr, ⊎_elim}
-use Prim.Native.Nat.{ℕ, zero, suc, ◌+◌, ◌≤◌, ◌<◌}
+use mathlib.Core.List.{List, [], ◌∷◌}
+use mathlib.Core.Option.{some}
+use mathlib.Core.Logic.{⊎_elim}
+use Prim.Native.Nat.{ℕ, ◌≤◌}
 use Prim.Native.String.{String}
-use Prim.Native.Char.{code}
 use native.Mathlib.Omega.{arith}
 use lib.Dec.{leb, eqb}
 use lib.ListN.{length}
-use borrow.Author.Tests.{eqb-true, eqb-false, leb-true, eq-eqb, ne_eqb, le-leb, not-true}
-use Rattle.word.specs.Choice.{pick, both, either}
-use Rattle.language.specs.Tokens.{Word, Sign, In, bytes, words, signs, all, starts, same, find, is, allowed, is_blank, in_comment, is_letter, is_digit, in_name, longest_name}
+use borrow.Author.Tests.{eqb-true, eqb-false, leb-true, ne_eqb, le-leb, not-true}
+use Rattle.word.specs.Choice.{both, either}
+use Rattle.language.specs.Tokens.{Word, Sign, In, bytes, words, signs, all, starts, same, find, is, allowed, is_blank, is_letter, is_digit, in_name, longest_name}
 use Rattle.tokens.proofs.Lists.{clash, either_true, both_true, every, every_in, distinct, sorted, find_only}
 
 -- what a first byte is not

@@ -1,19 +1,18 @@
 -- Telling words from names by the first letter: only the rows that begin with it can be spelt so.
-use mathlib.Core.Path.{◌≡◌, refl, sym, ap, subst, ◌∙◌}
-use mathlib.Core.Bool.{Bool, true, false, not}
-use mathlib.Core.List.{List, [], ◌∷◌, ◌++◌}
-use mathlib.Core.Option.{Option, none, some}
+use mathlib.Core.Path.{◌≡◌, refl, sym, ap, ◌∙◌}
+use mathlib.Core.Bool.{Bool, true, false}
+use mathlib.Core.List.{List, [], ◌∷◌}
+use mathlib.Core.Option.{none, some}
 use Prim.Native.Nat.{ℕ, zero, suc, ◌+◌, ◌-◌, ◌≤◌, ◌<◌}
 use Prim.Native.String.{String}
 use native.Mathlib.Omega.{arith}
-use lib.Dec.{leb, eqb}
+use lib.Dec.{eqb}
 use lib.ListN.{length, get_or, take, drop}
 use lib.Seq.{drop-cons}
-use borrow.Author.Tests.{eq-eqb, ne_eqb, eqb-true, eqb-false}
-use Rattle.word.specs.Choice.{pick, both, either}
-use Rattle.language.specs.Tokens.{Word, Token, bytes, words, starts, same, find, or_name}
+use Rattle.word.specs.Choice.{pick}
+use Rattle.language.specs.Tokens.{Word, bytes, words, starts, same, find, or_name}
 use Rattle.tokens.specs.Kinds.{kind_of, word_kind}
-use Rattle.tokens.proofs.Lists.{pick_g, clash}
+use Rattle.tokens.proofs.Lists.{pick_g}
 
 -- the rows whose spelling begins with b
 unfoldable pub only : ℕ → List (Word × String) → List (Word × String)

@@ -1,8 +1,8 @@
 -- What one look at the text gives, as the code holds it.
 use Rattle.std.proofs.Math.Option.{Option, none, some}
-use Rattle.std.specs.Prelude.{ℕ, List, [], ◌∷◌}
+use Rattle.std.specs.Prelude.{ℕ, List}
 use Prim.Native.String.{String}
-use Rattle.language.specs.Tokens.{Word, Sign, Found, begins, find, signs}
+use Rattle.language.specs.Tokens.{Sign, Found, begins, find, signs}
 use Rattle.tokens.specs.Kinds.{kind_of, value_of, sign_kind}
 use Rattle.tokens.specs.declared.Seen.{Seen}
 use Rattle.tokens.specs.declared.Seen.TheVariants.{Token, Fault}

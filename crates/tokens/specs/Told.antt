@@ -1,7 +1,7 @@
 -- What `tokens` promises. The answer and what stands in the working room are determined by the text and the room's length.
 use Rattle.std.specs.Prelude.{◌≡◌, List, ℕ, ◌≤◌, ◌<◌, length}
 use Rattle.std.proofs.lemmas.List.Edits.{sets}
-use Rattle.language.specs.Tokens.{Placed, Readable, Answer, Answer.good, Answer.refused, tokens_of}
+use Rattle.language.specs.Tokens.{Placed, Readable, Answer.good, Answer.refused, tokens_of}
 use Rattle.tokens.specs.Kinds.{flat, token_room}
 use Rattle.tokens.specs.declared.Outcome.{Outcome}
 use Rattle.tokens.specs.declared.Outcome.TheVariants.{Read, Refused, NoRoom}

@@ -1,6 +1,5 @@
 -- `begins` meets its contract: the first words are the same, or there are too few.
 use mathlib.Core.Path.{sym, ◌∙◌}
-use native.Mathlib.Omega.{arith}
 use lib.Seq.{length-take-le}
 use Rattle.agreement.proofs.Comparing.{begins_same, begins_longer}
 use Rattle.agreement.proofs.begins.Goals as goal

@@ -1,10 +1,8 @@
 -- `same` meets its contract: what is left of both lists decides, from where the loop is.
-use mathlib.Core.Path.{◌≡◌, refl}
+use mathlib.Core.Path.{◌≡◌}
 use Prim.Native.Nat.{◌-◌, ◌≤◌}
-use native.Mathlib.Omega.{arith}
 use lib.ListN.{length, drop}
 use Rattle.language.specs.Tokens.{same}
-use Rattle.tokens.proofs.Scan.{same_on, same_off, same_out, same_other}
 use Rattle.agreement.proofs.same.Given as goal
 
 abbrev pub invariant-loop-i : goal.invariant-loop-i

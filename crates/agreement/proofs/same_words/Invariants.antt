@@ -1,12 +1,9 @@
 -- `same_words` meets its contract: what is left of both lists decides, from where the loop is, and word i is made of the bytes from 4 * i on.
-use mathlib.Core.Path.{◌≡◌, refl, sym, ◌∙◌}
+use mathlib.Core.Path.{◌≡◌}
 use Prim.Native.Nat.{◌-◌, ◌≤◌}
-use native.Mathlib.Omega.{arith}
 use lib.ListN.{length, drop}
 use Rattle.word.specs.Bytes.{words_of_bytes}
-use Rattle.word.proofs.WordBytes.{words_of_bytes_length, words_of_bytes_at}
 use Rattle.language.specs.Tokens.{same}
-use Rattle.tokens.proofs.Scan.{same_on, same_off, same_out, same_other}
 use Rattle.agreement.proofs.same_words.Given as goal
 
 abbrev pub invariant-loop-i : goal.invariant-loop-i

@@ -1,6 +1,5 @@
 -- The parts' promises, put together.
 use mathlib.Core.Logic.{inl, inr}
-use mathlib.Core.Path.{◌≡◌, refl, sym, ◌∙◌}
 use Rattle.grammar.proofs.Steps.{hit, miss}
 use Rattle.grammar.proofs.Whole.{read, refuse, short, few_tokens, held_words, start, whole, whole_fault, whole_end, untold}
 use native.Mathlib.Omega.{arith}

@@ -1,10 +1,8 @@
 -- `comment_end` meets its contract: from where the loop is, the span still ends at the same byte.
-use mathlib.Core.Path.{◌≡◌, sym, refl, ◌∙◌, ap}
-use Prim.Native.Nat.{ℕ, ◌+◌, ◌-◌, ◌≤◌, ◌<◌}
-use native.Mathlib.Omega.{arith}
+use mathlib.Core.Path.{◌≡◌}
+use Prim.Native.Nat.{◌+◌, ◌-◌, ◌≤◌}
 use lib.ListN.{length, drop}
 use Rattle.language.specs.Tokens.{in_comment, span}
-use Rattle.tokens.proofs.Scan.{span_on, span_off, span_out}
 use Rattle.tokens.proofs.comment_end.Given as goal
 
 abbrev pub invariant-loop-i : goal.invariant-loop-i

@@ -1,8 +1,7 @@
 -- `in_comment` meets its contract: below the space only tab and carriage return are left once the line feed is out.
-use mathlib.Core.Path.{◌≡◌, sym, refl, ◌∙◌, ap}
+use mathlib.Core.Path.{◌≡◌}
 use borrow.Author.Tests.{ne_eqb, le-leb, lt-leb}
 use native.Mathlib.Omega.{arith}
-use Prim.Native.Nat.{ℕ}
 use Rattle.language.specs.Tokens.{in_comment, allowed}
 use Rattle.tokens.proofs.Scan.{both_right, either_none, return_alone}
 use Rattle.tokens.proofs.in_comment.Goals as goal

@@ -1,6 +1,5 @@
 -- `in_name` meets its contract: a letter, or else what the test for digits says.
-use mathlib.Core.Path.{◌≡◌, sym, refl, ◌∙◌, ap}
-use borrow.Author.Tests.{eq-eqb, ne_eqb, le-leb, lt-leb}
+use mathlib.Core.Path.{sym, ◌∙◌}
 use Rattle.language.specs.Tokens.{in_name}
 use Rattle.tokens.proofs.in_name.Goals as goal
 

@@ -1,6 +1,5 @@
 -- `is_blank` meets its contract: each test is one of the definition's.
-use mathlib.Core.Path.{◌≡◌, sym, refl, ◌∙◌, ap}
-use borrow.Author.Tests.{eq-eqb, ne_eqb, le-leb, lt-leb}
+use borrow.Author.Tests.{ne_eqb}
 use Rattle.language.specs.Tokens.{is_blank}
 use Rattle.tokens.proofs.is_blank.Goals as goal
 

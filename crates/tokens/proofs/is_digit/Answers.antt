@@ -1,6 +1,5 @@
 -- `is_digit` meets its contract.
-use mathlib.Core.Path.{◌≡◌, sym, refl, ◌∙◌, ap}
-use borrow.Author.Tests.{eq-eqb, ne_eqb, le-leb, lt-leb}
+use borrow.Author.Tests.{le-leb, lt-leb}
 use Rattle.language.specs.Tokens.{is_digit}
 use Rattle.tokens.proofs.is_digit.Goals as goal
 

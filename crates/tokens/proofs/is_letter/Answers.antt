@@ -1,8 +1,7 @@
 -- `is_letter` meets its contract.
-use mathlib.Core.Path.{◌≡◌, sym, refl, ◌∙◌, ap}
-use borrow.Author.Tests.{eq-eqb, ne_eqb, le-leb, lt-leb}
+use mathlib.Core.Path.{◌≡◌}
+use borrow.Author.Tests.{ne_eqb, le-leb, lt-leb}
 use native.Mathlib.Omega.{arith}
-use Prim.Native.Nat.{ℕ}
 use Rattle.language.specs.Tokens.{is_letter}
 use Rattle.tokens.proofs.Scan.{either_none}
 use Rattle.tokens.proofs.is_letter.Goals as goal

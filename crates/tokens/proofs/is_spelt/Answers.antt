@@ -1,9 +1,6 @@
 -- `is_spelt` meets its contract: what is left of both lists decides, from where the loop is.
-use mathlib.Core.Path.{◌≡◌, sym, refl, ◌∙◌, ap}
-use Prim.Native.Nat.{ℕ, ◌+◌, ◌-◌, ◌≤◌, ◌<◌}
+use mathlib.Core.Path.{sym, refl, ◌∙◌}
 use native.Mathlib.Omega.{arith}
-use lib.ListN.{length, drop, take}
-use Rattle.language.specs.Tokens.{same}
 use Rattle.tokens.proofs.Scan.{same_on, same_off, same_out, same_other, part_length, part_at}
 use Rattle.tokens.proofs.is_spelt.Goals as goal
 

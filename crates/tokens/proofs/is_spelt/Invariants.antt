@@ -1,10 +1,8 @@
 -- `is_spelt` meets its contract: what is left of both lists decides, from where the loop is.
-use mathlib.Core.Path.{◌≡◌, sym, refl, ◌∙◌, ap}
-use Prim.Native.Nat.{ℕ, ◌+◌, ◌-◌, ◌≤◌, ◌<◌}
-use native.Mathlib.Omega.{arith}
+use mathlib.Core.Path.{◌≡◌}
+use Prim.Native.Nat.{◌-◌, ◌≤◌}
 use lib.ListN.{length, drop, take}
 use Rattle.language.specs.Tokens.{same}
-use Rattle.tokens.proofs.Scan.{same_on, same_off, same_out, same_other, part_length, part_at}
 use Rattle.tokens.proofs.is_spelt.Given as goal
 
 abbrev pub invariant-loop-k : goal.invariant-loop-k

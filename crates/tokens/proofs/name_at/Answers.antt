@@ -1,9 +1,5 @@
 -- `name_at` meets its contract: the span is what lies before the name's end, and its kind says whether it is a name.
-use mathlib.Core.Path.{◌≡◌, sym, refl, ◌∙◌, ap}
-use Prim.Native.Nat.{ℕ, ◌+◌, ◌-◌, ◌≤◌, ◌<◌}
 use native.Mathlib.Omega.{arith}
-use lib.ListN.{length, drop}
-use Rattle.language.specs.Tokens.{in_name, span}
 use Rattle.tokens.proofs.Looks.{name_some, name_long, name_plain, name_word}
 use Rattle.tokens.proofs.name_at.Goals as goal
 

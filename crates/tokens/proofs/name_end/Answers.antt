@@ -1,9 +1,7 @@
 -- `name_end` meets its contract: from where the loop is, the span still ends at the same byte.
-use mathlib.Core.Path.{◌≡◌, sym, refl, ◌∙◌, ap}
-use Prim.Native.Nat.{ℕ, ◌+◌, ◌-◌, ◌≤◌, ◌<◌}
+use mathlib.Core.Path.{sym, refl, ◌∙◌}
 use native.Mathlib.Omega.{arith}
-use lib.ListN.{length, drop}
-use Rattle.language.specs.Tokens.{in_name, span}
+use Rattle.language.specs.Tokens.{in_name}
 use Rattle.tokens.proofs.Scan.{span_on, span_off, span_out}
 use Rattle.tokens.proofs.name_end.Goals as goal
 

@@ -1,9 +1,7 @@
 -- `number_at` meets its contract: v and the digits that are left make the number of all digits, and once v is too large so is that.
-use mathlib.Core.Path.{◌≡◌, sym, refl, ◌∙◌, ap}
-use Prim.Native.Nat.{ℕ, ◌+◌, ◌-◌, ◌*◌, ◌≤◌, ◌<◌}
+use mathlib.Core.Path.{sym, refl, ◌∙◌}
 use native.Mathlib.Omega.{arith}
-use lib.ListN.{length, drop}
-use Rattle.language.specs.Tokens.{is_digit, span, decimal, largest_number}
+use Rattle.language.specs.Tokens.{is_digit}
 use Rattle.tokens.proofs.Scan.{span_on, span_off, span_out}
 use Rattle.tokens.proofs.Looks.{decimal_on, decimal_big, decimal_off, decimal_out, number_big}
 use Rattle.tokens.proofs.number_at.Goals as goal

@@ -1,11 +1,8 @@
 -- `number_at` meets its contract: v and the digits that are left make the number of all digits, and once v is too large so is that.
-use mathlib.Core.Path.{◌≡◌, sym, refl, ◌∙◌, ap}
-use Prim.Native.Nat.{ℕ, ◌+◌, ◌-◌, ◌*◌, ◌≤◌, ◌<◌}
-use native.Mathlib.Omega.{arith}
+use mathlib.Core.Path.{◌≡◌}
+use Prim.Native.Nat.{◌+◌, ◌-◌, ◌≤◌}
 use lib.ListN.{length, drop}
 use Rattle.language.specs.Tokens.{is_digit, span, decimal, largest_number}
-use Rattle.tokens.proofs.Scan.{span_on, span_off, span_out}
-use Rattle.tokens.proofs.Looks.{decimal_on, decimal_big, decimal_off, decimal_out, number_big}
 use Rattle.tokens.proofs.number_at.Given as goal
 
 abbrev pub invariant-loop-j : goal.invariant-loop-j

@@ -1,5 +1,5 @@
 -- `number_end` meets its contract: each test is one of the definition's.
-use mathlib.Core.Path.{◌≡◌, sym, refl, ◌∙◌, ap}
+use mathlib.Core.Path.{sym, ◌∙◌, ap}
 use native.Mathlib.Omega.{arith}
 use Rattle.language.specs.Tokens.{in_name}
 use Rattle.tokens.proofs.Looks.{number_letter, number_padded, number_zero, number_good}

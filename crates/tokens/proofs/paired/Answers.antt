@@ -1,5 +1,5 @@
 -- `paired` meets its contract.
-use mathlib.Core.Path.{◌≡◌, sym}
+use mathlib.Core.Path.{sym}
 use borrow.Author.Tests.{eq-eqb, ne_eqb}
 use Rattle.tokens.proofs.paired.Goals as goal
 

@@ -1,7 +1,6 @@
 -- `put` meets its contract: three stores one after the other.
 use native.Mathlib.Numerals.{add-one, add-two}
 use native.Mathlib.Omega.{arith}
-use mathlib.Core.Path.{refl}
 use lib.ListN.{length-set}
 use Rattle.tokens.proofs.put.Goals as goal
 

@@ -1,6 +1,5 @@
 -- `sign_at` meets its contract: two bytes tell the sign, and its kind how many bytes it has.
-use mathlib.Core.Path.{◌≡◌, sym, refl, ◌∙◌, ap}
-use native.Mathlib.Omega.{arith}
+use mathlib.Core.Path.{◌∙◌, ap}
 use mathlib.Core.List.{[], ◌∷◌}
 use Prim.Native.Nat.{ℕ}
 use lib.ListN.{get_or}

@@ -1,5 +1,5 @@
 -- `sign_kind` meets its contract: with the first byte known the table's rows compute; a byte that begins no row finds none.
-use mathlib.Core.Path.{◌≡◌, sym, refl, ◌∙◌, ap}
+use mathlib.Core.Path.{sym, ◌∙◌}
 use borrow.Author.Tests.{ne_eqb}
 use lib.Dec.{eqb}
 use mathlib.Core.Option.{none, some}

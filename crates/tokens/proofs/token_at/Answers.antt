@@ -1,5 +1,5 @@
 -- `token_at` meets its contract: the first byte chooses, as in the definition.
-use mathlib.Core.Path.{◌≡◌, sym, refl, ◌∙◌, ap}
+use mathlib.Core.Path.{sym, ◌∙◌, ap}
 use Rattle.tokens.specs.Seen.{seen}
 use Rattle.tokens.proofs.Looks.{token_name, token_number, token_sign}
 use Rattle.tokens.proofs.token_at.Goals as goal

@@ -1,10 +1,8 @@
 -- `tokens` meets its contract: what was read so far stands in the room, and what is left says the rest.
-use mathlib.Core.Path.{◌≡◌, sym, refl, ◌∙◌, ap}
-use Prim.Native.Nat.{ℕ, ◌+◌, ◌-◌, ◌*◌, ◌≤◌, ◌<◌}
+use mathlib.Core.Path.{sym, ◌∙◌}
 use native.Mathlib.Omega.{arith}
-use lib.ListN.{length}
 use borrow.Author.Tests.{eq-eqb, ne_eqb}
-use Rattle.tokens.proofs.Going.{Going, begun, token_size, keeps, on_blank, on_comment, on_token, on_fault, is_fault, no_room, too_long, at_fault, well}
+use Rattle.tokens.proofs.Going.{begun, token_size, keeps, on_blank, on_comment, on_token, on_fault, is_fault, no_room, too_long, at_fault, well}
 use Rattle.tokens.proofs.tokens.Goals as goal
 
 pub returns-then-room-lt-TOKEN_ROOM : goal.returns-then-room-lt-TOKEN_ROOM

@@ -1,5 +1,5 @@
 -- `word_kind` meets its contract: in each arm the first letter leaves the rows that are compared with.
-use mathlib.Core.Path.{◌≡◌, sym, refl, ◌∙◌, ap}
+use mathlib.Core.Path.{sym, refl, ◌∙◌}
 use borrow.Author.Tests.{ne_eqb}
 use Rattle.language.specs.Tokens.{Word, words, bytes, starts}
 use Rattle.tokens.specs.Kinds.{word_kind}

@@ -1,5 +1,5 @@
 -- `word_or_name` meets its contract.
-use mathlib.Core.Path.{◌≡◌, sym, refl, ◌∙◌, ap}
+use mathlib.Core.Path.{sym, ◌∙◌}
 use Rattle.tokens.proofs.word_or_name.Goals as goal
 
 pub returns-then-is_spelt : goal.returns-then-is_spelt

@@ -1,7 +1,6 @@
 -- The last argument first; the measure is how many there are.
 use native.Mathlib.Omega.{arith}
 use Rattle.compiler.proofs.Calling.{passes_none, passes_more}
-use Prim.Native.Nat.{ℕ, ◌<◌}
 use Rattle.compiler.proofs.calls.+passes.Goals as goal
 
 pub returns-then-n-eq0 : goal.returns-then-n-eq0

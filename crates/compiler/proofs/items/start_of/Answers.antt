@@ -1,7 +1,6 @@
 -- Between the start and the scan lie as many things as are still needed.
-use Prim.Native.Nat.{◌≤◌, ◌+◌, ◌*◌}
 use native.Mathlib.Omega.{arith}
-use Rattle.compiler.proofs.Scanning.{Scanning, scanning_start, scanning_none, scanning_next, scanning_end, scanning_broken}
+use Rattle.compiler.proofs.Scanning.{scanning_start, scanning_none, scanning_next, scanning_end, scanning_broken}
 use Rattle.compiler.proofs.items.start_of.Goals as goal
 
 pub returns-then-end-lt4 : goal.returns-then-end-lt4

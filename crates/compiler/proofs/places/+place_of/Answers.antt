@@ -1,6 +1,5 @@
 -- By the kind of the last item; the measure is the position.
 use Rattle.compiler.proofs.Placing.{place_none, place_number, place_local, place_unary, place_other}
-use Prim.Native.Nat.{ℕ, ◌<◌}
 use Rattle.compiler.proofs.places.+place_of.Goals as goal
 
 pub returns-then-end-lt4 : goal.returns-then-end-lt4

@@ -1,9 +1,7 @@
 -- The last function first.
-use Prim.Native.Nat.{◌≤◌}
-use mathlib.Core.Path.{◌≡◌, refl}
+use mathlib.Core.Path.{refl}
 use native.Mathlib.Omega.{arith}
-use lib.ListN.{length}
-use Rattle.compiler.proofs.Layouts.{Going, going_start, going_next, going_end}
+use Rattle.compiler.proofs.Layouts.{going_start, going_next, going_end}
 use Rattle.compiler.proofs.programs.bodies.Goals as goal
 
 pub loop-f-init : goal.loop-f-init

@@ -1,9 +1,8 @@
 -- The last function first.
 use Prim.Native.Nat.{◌≤◌}
-use mathlib.Core.Path.{◌≡◌, refl}
-use native.Mathlib.Omega.{arith}
+use mathlib.Core.Path.{◌≡◌}
 use lib.ListN.{length}
-use Rattle.compiler.proofs.Layouts.{Going, going_start, going_next, going_end}
+use Rattle.compiler.proofs.Layouts.{Going}
 use Rattle.compiler.proofs.programs.bodies.Given as goal
 
 abbrev pub invariant-loop-f : goal.invariant-loop-f

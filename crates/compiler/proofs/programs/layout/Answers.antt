@@ -1,9 +1,8 @@
 -- Function by function, each behind the one before it.
-use Prim.Native.Nat.{◌≤◌, ◌-◌}
-use mathlib.Core.Path.{◌≡◌, refl}
+use mathlib.Core.Path.{refl}
 use native.Mathlib.Omega.{arith}
-use lib.ListN.{length, length-set}
-use Rattle.compiler.proofs.Layouts.{Laying, laying_start, laying_past, laying_next, laying_long, laying_end}
+use lib.ListN.{length-set}
+use Rattle.compiler.proofs.Layouts.{laying_start, laying_past, laying_next, laying_long, laying_end}
 use Rattle.compiler.proofs.programs.layout.Goals as goal
 
 pub loop-f-init : goal.loop-f-init

@@ -1,6 +1,5 @@
 -- Each function of the cycle emits the code of what stands where it looks. Measures: how far the words may still go, then how many statements there are, then
 -- who calls whom.
-use Prim.Native.Nat.{◌-◌, ◌*◌, ◌+◌, ℕ, ◌<◌}
 use mathlib.Core.Path.{sym, ◌∙◌}
 use native.Mathlib.Omega.{arith}
 use Rattle.compiler.proofs.Stating as S

@@ -1,9 +1,6 @@
 -- Each function of the cycle emits the code of what stands where it looks. Measures: how far the words may still go, then how many statements there are, then
 -- who calls whom.
-use Prim.Native.Nat.{◌-◌, ◌*◌, ◌+◌, ℕ, ◌<◌}
-use mathlib.Core.Path.{sym, ◌∙◌}
-use native.Mathlib.Omega.{arith}
-use Rattle.compiler.proofs.Stating as S
+use Prim.Native.Nat.{◌-◌, ◌*◌, ◌+◌}
 use Rattle.compiler.proofs.statements.+block_choose_statement_turns.Given as goal
 
 abbrev pub decreases-block : goal.decreases-block

@@ -1,8 +1,6 @@
 -- After i statements the rest stands where the next one does.
 use Prim.Native.Nat.{◌≤◌, ◌-◌}
-use native.Mathlib.Omega.{arith}
 use Rattle.compiler.specs.Blocks.{Skips}
-use Rattle.compiler.proofs.Stating.{skips_start, skips_next, skips_end, skips_far}
 use Rattle.compiler.proofs.statements.skip.Given as goal
 
 abbrev pub invariant-loop-i : goal.invariant-loop-i

@@ -1,11 +1,10 @@
 -- Each function of the cycle emits the code of what ends where it looks. Measures: the position, then who calls whom.
-use Prim.Native.Nat.{◌-◌, ◌*◌, ◌+◌, ◌≤◌, ℕ, ◌<◌}
-use mathlib.Core.Path.{◌≡◌, refl, sym, ap, ◌∙◌}
-use mathlib.Core.Logic.{⊎_elim}
+use Prim.Native.Nat.{◌-◌}
+use mathlib.Core.Path.{refl, sym, ap, ◌∙◌}
 use native.Mathlib.Omega.{arith}
 use borrow.Author.Tests.{eq-eqb, ne_eqb}
 use lib.Dec.{eqb}
-use lib.ListN.{length, get_or}
+use lib.ListN.{get_or}
 use Rattle.emission.specs.Macros.{related}
 use Rattle.compiler.specs.Lies.{first}
 use Rattle.compiler.specs.Post.{agree}

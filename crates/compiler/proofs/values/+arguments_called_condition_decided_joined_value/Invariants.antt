@@ -1,16 +1,9 @@
 -- Each function of the cycle emits the code of what ends where it looks. Measures: the position, then who calls whom.
-use Prim.Native.Nat.{◌-◌, ◌*◌, ◌+◌, ◌≤◌, ℕ, ◌<◌}
-use mathlib.Core.Path.{◌≡◌, refl, sym, ap, ◌∙◌}
-use mathlib.Core.Logic.{⊎_elim}
-use native.Mathlib.Omega.{arith}
-use lib.Dec.{eqb}
-use lib.ListN.{length, get_or}
-use Rattle.emission.specs.Macros.{related}
-use Rattle.compiler.specs.Lies.{first}
-use Rattle.compiler.specs.Post.{agree}
+use Prim.Native.Nat.{◌*◌, ◌+◌, ◌≤◌}
+use mathlib.Core.Path.{◌≡◌}
+use lib.ListN.{length}
 use Rattle.compiler.proofs.Valuing as E
 use Rattle.compiler.proofs.Deciding as D
-use Rattle.compiler.proofs.Calling as C
 use Rattle.compiler.proofs.values.+arguments_called_condition_decided_joined_value.Given as goal
 
 abbrev pub decreases-arguments : goal.decreases-arguments

@@ -1,6 +1,4 @@
 -- No entry above i has the name.
-use mathlib.Core.Path.{refl}
-use native.Mathlib.Omega.{arith}
 use Rattle.language.specs.Rules.{main_name}
 use Rattle.rules.proofs.Looking as L
 use Rattle.declarations.proofs.entry.find_main.Given as goal

@@ -1,7 +1,6 @@
 -- By the body, and by whether it ends in return.
 use mathlib.Core.Path.{refl, ◌∙◌}
 use native.Mathlib.Omega.{arith}
-use Rattle.rules.proofs.Looking.{denied, granted}
 use Rattle.declarations.proofs.Finishing as L
 use Rattle.declarations.proofs.Rooms.{block_room, counted_more}
 use Rattle.declarations.proofs.functions.finish.Goals as goal

@@ -1,9 +1,6 @@
 -- The functions before p are in the core's rows, and what is left gives the rest.
-use mathlib.Core.Path.{◌≡◌, refl, ◌∙◌}
+use mathlib.Core.Path.{refl, ◌∙◌}
 use native.Mathlib.Omega.{arith}
-use Prim.Native.Nat.{◌-◌}
-use lib.ListN.{length}
-use Rattle.rules.specs.Tables.{globals_in}
 use Rattle.declarations.proofs.Filling as L
 use Rattle.declarations.proofs.Rooms.{rooms_on, placed_at}
 use Rattle.declarations.proofs.Standing.{further}

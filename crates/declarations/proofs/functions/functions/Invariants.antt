@@ -1,12 +1,9 @@
 -- The functions before p are in the core's rows, and what is left gives the rest.
-use mathlib.Core.Path.{◌≡◌, refl, ◌∙◌}
-use native.Mathlib.Omega.{arith}
+use mathlib.Core.Path.{◌≡◌}
 use Prim.Native.Nat.{◌-◌}
 use lib.ListN.{length}
 use Rattle.rules.specs.Tables.{globals_in}
 use Rattle.declarations.proofs.Filling as L
-use Rattle.declarations.proofs.Rooms.{rooms_on, placed_at}
-use Rattle.declarations.proofs.Standing.{further}
 use Rattle.declarations.proofs.functions.functions.Given as goal
 
 abbrev pub invariant-loop-p : goal.invariant-loop-p

@@ -1,7 +1,6 @@
 -- By the name, the kind and the sizes.
 use mathlib.Core.Path.{refl}
 use native.Mathlib.Omega.{arith}
-use Rattle.rules.proofs.Looking.{denied, granted}
 use Rattle.declarations.proofs.Declaring as L
 use Rattle.declarations.proofs.globals.declare.Goals as goal
 

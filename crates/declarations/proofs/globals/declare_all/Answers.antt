@@ -1,8 +1,6 @@
 -- What is left declares the rest.
-use mathlib.Core.Path.{◌≡◌, refl, ◌∙◌}
+use mathlib.Core.Path.{refl, ◌∙◌}
 use native.Mathlib.Omega.{arith}
-use Prim.Native.Nat.{◌-◌}
-use lib.ListN.{length}
 use Rattle.declarations.proofs.Declaring as L
 use Rattle.declarations.proofs.Standing.{further}
 use Rattle.declarations.proofs.globals.declare_all.Goals as goal

@@ -1,10 +1,8 @@
 -- What is left declares the rest.
-use mathlib.Core.Path.{◌≡◌, refl, ◌∙◌}
-use native.Mathlib.Omega.{arith}
+use mathlib.Core.Path.{◌≡◌}
 use Prim.Native.Nat.{◌-◌}
 use lib.ListN.{length}
 use Rattle.declarations.proofs.Declaring as L
-use Rattle.declarations.proofs.Standing.{further}
 use Rattle.declarations.proofs.globals.declare_all.Given as goal
 
 abbrev pub invariant-loop-p : goal.invariant-loop-p

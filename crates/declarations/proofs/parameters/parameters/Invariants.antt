@@ -1,10 +1,8 @@
 -- What is left of the parameters enters the rest.
-use mathlib.Core.Path.{◌≡◌, refl, ◌∙◌}
-use native.Mathlib.Omega.{arith}
+use mathlib.Core.Path.{◌≡◌}
 use Prim.Native.Nat.{◌-◌}
 use lib.ListN.{length}
 use Rattle.rules.specs.Tables.{globals_in}
-use Rattle.rules.proofs.Looking.{denied, granted}
 use Rattle.declarations.proofs.Taking as L
 use Rattle.declarations.proofs.parameters.parameters.Given as goal
 

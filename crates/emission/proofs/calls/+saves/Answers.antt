@@ -1,5 +1,5 @@
 -- The last of them first; the measure is how many.
-use Prim.Native.Nat.{◌-◌, ℕ, ◌<◌}
+use Prim.Native.Nat.{◌-◌}
 use native.Mathlib.Omega.{arith}
 use Rattle.emission.proofs.Calling.{saves_none, saves_more}
 use Rattle.emission.proofs.calls.+saves.Goals as goal

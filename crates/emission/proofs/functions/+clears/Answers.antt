@@ -1,5 +1,5 @@
 -- The last of them first; the measure is how many.
-use Prim.Native.Nat.{◌-◌, ℕ, ◌<◌}
+use Prim.Native.Nat.{◌-◌}
 use native.Mathlib.Omega.{arith}
 use Rattle.emission.proofs.Calling.{clears_none, clears_more}
 use Rattle.emission.proofs.functions.+clears.Goals as goal

@@ -1,10 +1,10 @@
 -- So far the first words, then what was there.
-use Prim.Native.Nat.{ℕ, ◌+◌, ◌*◌, ◌-◌, ◌≤◌}
+use Prim.Native.Nat.{ℕ, ◌+◌, ◌*◌}
 use mathlib.Core.Path.{◌≡◌, refl, ◌∙◌, ap}
-use mathlib.Core.List.{List, ◌++◌}
-use lib.ListN.{length, take, drop, get_or}
+use mathlib.Core.List.{List}
+use lib.ListN.{length, get_or}
 use lib.Seq.{sets, length-sets}
-use Rattle.word.specs.Bytes.{bytes_of, bytes_of_words}
+use Rattle.word.specs.Bytes.{bytes_of}
 use Rattle.emission.proofs.Wordwise.{bytes_none, bytes_more}
 use native.Mathlib.Omega.{arith}
 use Rattle.emission.proofs.image.bytes.Goals as goal

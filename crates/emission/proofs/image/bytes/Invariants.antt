@@ -1,12 +1,9 @@
 -- So far the first words, then what was there.
-use Prim.Native.Nat.{ℕ, ◌+◌, ◌*◌, ◌-◌, ◌≤◌}
-use mathlib.Core.Path.{◌≡◌, refl, ◌∙◌, ap}
-use mathlib.Core.List.{List, ◌++◌}
-use lib.ListN.{length, take, drop, get_or}
-use lib.Seq.{sets, length-sets}
-use Rattle.word.specs.Bytes.{bytes_of, bytes_of_words}
-use Rattle.emission.proofs.Wordwise.{bytes_none, bytes_more}
-use native.Mathlib.Omega.{arith}
+use Prim.Native.Nat.{◌*◌, ◌-◌, ◌≤◌}
+use mathlib.Core.Path.{◌≡◌}
+use mathlib.Core.List.{◌++◌}
+use lib.ListN.{length, take, drop}
+use Rattle.word.specs.Bytes.{bytes_of_words}
 use Rattle.emission.proofs.image.bytes.Given as goal
 
 abbrev pub invariant-loop-i : goal.invariant-loop-i

@@ -1,7 +1,7 @@
 -- `answer` meets its contract: the smallest that applies, tests in the definition's order.
 use Rattle.processor.specs.Image.{answer_of}
 use borrow.Author.Tests.{le-leb, lt-leb}
-use mathlib.Core.Path.{◌≡◌, refl, sym, ◌∙◌, ap}
+use mathlib.Core.Path.{sym, ◌∙◌}
 use Rattle.emulator.proofs.image.answer.Goals as goal
 
 pub returns-then-memory-lt2097152 : goal.returns-then-memory-lt2097152

@@ -1,12 +1,8 @@
 -- `clear` meets its contract: so far zeros, then what was there.
-use Rattle.processor.specs.Machine.{zeros}
-use borrow.Author.Fill.{fill_none, fill_more}
-use lib.Seq.{drop-length}
-use lib.ListN.{length, replicate, drop, length-set}
-use mathlib.Core.List.{◌++◌, append-nil}
-use Prim.Native.Nat.{◌-◌, ◌≤◌, ◌+◌}
-use mathlib.Core.Path.{◌≡◌, refl, sym, ◌∙◌, ap}
-use native.Mathlib.Omega.{arith}
+use lib.ListN.{length, replicate, drop}
+use mathlib.Core.List.{◌++◌}
+use Prim.Native.Nat.{◌-◌, ◌≤◌}
+use mathlib.Core.Path.{◌≡◌}
 use Rattle.emulator.proofs.image.clear.Given as goal
 
 abbrev pub invariant-loop-i : goal.invariant-loop-i

@@ -2,10 +2,9 @@
 use Rattle.processor.specs.Machine.{zeros}
 use borrow.Author.Fill.{fill_none, fill_more}
 use lib.Seq.{drop-length}
-use lib.ListN.{length, replicate, drop, length-set}
-use mathlib.Core.List.{◌++◌, append-nil}
-use Prim.Native.Nat.{◌-◌, ◌≤◌, ◌+◌}
-use mathlib.Core.Path.{◌≡◌, refl, sym, ◌∙◌, ap}
+use lib.ListN.{length, length-set}
+use mathlib.Core.List.{append-nil}
+use mathlib.Core.Path.{◌≡◌, refl, ◌∙◌}
 use native.Mathlib.Omega.{arith}
 use Rattle.emulator.proofs.image.clear_words.Goals as goal
 

@@ -1,10 +1,9 @@
 -- `place` meets its contract: so far the first bytes, between what was there.
 use Rattle.processor.specs.Machine.{placed}
-use lib.Seq.{paste, paste-zero, paste-suc, take-length}
+use lib.Seq.{paste-zero, paste-suc, take-length}
 use lib.ListN.{length, length-set}
 use native.Mathlib.Numerals.{add-one}
-use Prim.Native.Nat.{◌-◌, ◌≤◌, ◌+◌}
-use mathlib.Core.Path.{◌≡◌, refl, sym, ◌∙◌, ap}
+use mathlib.Core.Path.{◌≡◌, refl, ◌∙◌}
 use native.Mathlib.Omega.{arith}
 use Rattle.emulator.proofs.image.place.Goals as goal
 

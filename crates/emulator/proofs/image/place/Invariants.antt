@@ -1,11 +1,8 @@
 -- `place` meets its contract: so far the first bytes, between what was there.
-use Rattle.processor.specs.Machine.{placed}
-use lib.Seq.{paste, paste-zero, paste-suc, take-length}
-use lib.ListN.{length, length-set}
-use native.Mathlib.Numerals.{add-one}
-use Prim.Native.Nat.{◌-◌, ◌≤◌, ◌+◌}
-use mathlib.Core.Path.{◌≡◌, refl, sym, ◌∙◌, ap}
-use native.Mathlib.Omega.{arith}
+use lib.Seq.{paste}
+use lib.ListN.{length}
+use Prim.Native.Nat.{◌-◌, ◌≤◌}
+use mathlib.Core.Path.{◌≡◌}
 use Rattle.emulator.proofs.image.place.Given as goal
 
 abbrev pub invariant-loop-j : goal.invariant-loop-j

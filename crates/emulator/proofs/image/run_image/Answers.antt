@@ -1,7 +1,6 @@
 -- `run_image` meets its contract: the run of the machine at the start.
 use Rattle.processor.specs.Image.{run_image}
 use Rattle.processor.specs.Machine.{start_of}
-use mathlib.Core.Path.{◌≡◌, refl, sym, ◌∙◌, ap}
 use Rattle.emulator.proofs.image.run_image.Goals as goal
 
 pub returns : goal.returns

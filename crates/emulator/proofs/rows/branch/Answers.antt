@@ -1,10 +1,10 @@
 -- `branch` meets its contract: taken, not taken, or no such row.
 use Rattle.emulator.proofs.Fusing.{branch_fused}
 use Rattle.processor.specs.Instructions.{decode_branch, cond_key, branches, find}
-use Rattle.processor.specs.Formats.{rd, rs1, rs2, funct3, funct7, imm_i, imm_s, imm_b}
+use Rattle.processor.specs.Formats.{rs1, rs2, funct3, imm_b}
 use Rattle.processor.specs.declared.Status.TheVariants.{Going}
 use Rattle.processor.specs.Machine.{state}
-use mathlib.Core.Path.{◌≡◌, refl, sym, ◌∙◌, ap}
+use mathlib.Core.Path.{sym, ◌∙◌}
 use borrow.Author.Rules.{rules}
 use Rattle.emulator.proofs.rows.branch.Goals as goal
 

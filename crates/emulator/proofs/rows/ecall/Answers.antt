@@ -1,8 +1,8 @@
 -- `ecall` meets its contract, by what x17 is.
 use Rattle.processor.specs.Execute.{call_of}
 use Rattle.emulator.proofs.Log.{same_log}
-use borrow.Author.Tests.{eq-eqb, ne_eqb}
-use mathlib.Core.Path.{◌≡◌, refl, sym, ◌∙◌, ap}
+use borrow.Author.Tests.{ne_eqb}
+use mathlib.Core.Path.{sym, ◌∙◌}
 use native.Mathlib.Omega.{arith}
 use Rattle.emulator.proofs.rows.ecall.Goals as goal
 

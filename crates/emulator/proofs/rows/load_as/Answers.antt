@@ -1,7 +1,7 @@
 -- `load_as` meets its contract: what it reaches is read, else nothing changes.
 use Rattle.processor.specs.Execute.{load_of}
 use Rattle.processor.proofs.Kept.{reached}
-use mathlib.Core.Path.{◌≡◌, refl, sym, ◌∙◌, ap}
+use mathlib.Core.Path.{sym, ◌∙◌}
 use native.Mathlib.Omega.{arith}
 use borrow.Author.Rules.{rules}
 use Rattle.emulator.proofs.rows.load_as.Goals as goal

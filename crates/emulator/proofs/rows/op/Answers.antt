@@ -1,10 +1,10 @@
 -- `op` meets its contract: the operands of the definition, and its row.
 use Rattle.emulator.proofs.Fusing.{op_fused}
 use Rattle.processor.specs.Instructions.{decode_op, alu_key, operations, find, key}
-use Rattle.processor.specs.Formats.{rd, rs1, rs2, funct3, funct7, imm_i, imm_s, imm_b}
+use Rattle.processor.specs.Formats.{rd, rs1, rs2, funct3, funct7}
 use Rattle.processor.specs.declared.Status.TheVariants.{Going}
 use Rattle.processor.specs.Machine.{state}
-use mathlib.Core.Path.{◌≡◌, refl, sym, ◌∙◌, ap}
+use mathlib.Core.Path.{◌∙◌}
 use Rattle.emulator.proofs.rows.op.Goals as goal
 
 pub returns : goal.returns

@@ -1,10 +1,10 @@
 -- `op_imm` meets its contract: the operands of the definition, and its row, which may be a shift's.
 use Rattle.emulator.proofs.Fusing.{imm_fused}
 use Rattle.processor.specs.Instructions.{decode_op_imm, decode_shift, alu_key, immediates, shifts, find, key}
-use Rattle.processor.specs.Formats.{rd, rs1, rs2, funct3, funct7, imm_i, imm_s, imm_b}
+use Rattle.processor.specs.Formats.{rd, rs1, rs2, funct3, funct7, imm_i}
 use Rattle.processor.specs.declared.Status.TheVariants.{Going}
 use Rattle.processor.specs.Machine.{state}
-use mathlib.Core.Path.{◌≡◌, refl, sym, ◌∙◌, ap}
+use mathlib.Core.Path.{◌∙◌}
 use Rattle.emulator.proofs.rows.op_imm.Goals as goal
 
 pub returns : goal.returns

@@ -1,7 +1,7 @@
 -- `store_as` meets its contract: what it reaches is written, else nothing changes.
 use Rattle.processor.specs.Execute.{store_of}
 use Rattle.processor.proofs.Kept.{reached}
-use mathlib.Core.Path.{◌≡◌, refl, sym, ◌∙◌, ap}
+use mathlib.Core.Path.{sym, ◌∙◌}
 use native.Mathlib.Omega.{arith}
 use borrow.Author.Rules.{rules}
 use Rattle.emulator.proofs.rows.store_as.Goals as goal

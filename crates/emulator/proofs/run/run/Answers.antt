@@ -1,14 +1,8 @@
 -- `run` meets its contract. The loop's invariant: the rest of the run, from the machine as it is now, is the whole run.
 use Rattle.emulator.proofs.Turns.{stopped, turn, ended}
 use Rattle.emulator.proofs.Log.{same_log, then_grows}
-use Rattle.emulator.specs.Stands.{stands, Grows}
-use Rattle.processor.specs.declared.Status.TheVariants.{Going}
-use Rattle.processor.specs.Machine.{memory_bytes, register_count}
-use Rattle.processor.specs.Run.{run_of}
-use lib.ListN.{length, take}
 use native.Mathlib.Nat.{sub-zero, add-zero}
-use Prim.Native.Nat.{◌+◌, ◌-◌, ◌≤◌}
-use mathlib.Core.Path.{◌≡◌, refl, sym, ◌∙◌, ap}
+use mathlib.Core.Path.{refl, sym, ◌∙◌}
 use native.Mathlib.Omega.{arith}
 use borrow.Author.Rules.{rules}
 use Rattle.emulator.proofs.run.run.Goals as goal

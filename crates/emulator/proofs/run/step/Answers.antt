@@ -2,7 +2,7 @@
 use Rattle.processor.specs.Run.{step_of}
 use Rattle.emulator.proofs.Turns.{fetched}
 use Rattle.emulator.proofs.Log.{same_log}
-use mathlib.Core.Path.{◌≡◌, refl, sym, ◌∙◌, ap}
+use mathlib.Core.Path.{sym, ◌∙◌}
 use native.Mathlib.Omega.{arith}
 use Rattle.emulator.proofs.run.step.Goals as goal
 

@@ -1,10 +1,6 @@
 -- Expressions: each way through is a law of the parser; the measure counts the steps inwards that are left, and the calls of one step.
-use Prim.Native.Nat.{ℕ, ◌<◌, ◌+◌, ◌*◌, ◌-◌, ◌≤◌}
-use mathlib.Core.Path.{◌≡◌, refl, sym, ◌∙◌}
-use lib.ListN.{length}
-use Rattle.grammar.specs.Parse.{rest_of, exprs_of, levelled}
-use Rattle.grammar.specs.Told.{tail_form, args_form}
-use Rattle.grammar.proofs.Steps.{hit, miss, Going, begun, room, room_at, room_on, room_put, room_gap}
+use mathlib.Core.Path.{refl, sym, ◌∙◌}
+use Rattle.grammar.proofs.Steps.{hit, miss, begun, room, room_at, room_on, room_put, room_gap}
 use Rattle.grammar.proofs.ExprLaws.{level_out, level_prim, level_rest, level_bad, rest_stop, rest_end, rest_bad, rest_again, operand_bad, operand_strict, operand_lazy, args_out, args_bad, args_last, args_again, arguments_deep, arguments_none, arguments_bad, arguments_open, arguments_done, enclosed_deep, enclosed_bad, enclosed_open, enclosed_done, named_index, named_index_bad, named_call, named_call_bad, named_name, unary_deep, unary_bad, unary_done, primary_number, primary_name, primary_true, primary_false, primary_paren, primary_minus, primary_bang, primary_none, sign_there}
 use native.Mathlib.Omega.{arith}
 use Rattle.grammar.proofs.expressions.+args_arguments_enclosed_level_named_operand_primary_rest_unary.Goals as goal

@@ -1,7 +1,5 @@
 -- An expression and its semicolon.
-use mathlib.Core.Path.{◌≡◌, refl, sym, ◌∙◌}
-use lib.ListN.{length}
-use Rattle.grammar.proofs.Steps.{hit, miss, room, room_at, room_put}
+use Rattle.grammar.proofs.Steps.{hit, miss}
 use Rattle.grammar.proofs.StmtLaws.{ended_bad, ended_open, ended_done}
 use native.Mathlib.Omega.{arith}
 use Rattle.grammar.proofs.expressions.ended.Goals as goal

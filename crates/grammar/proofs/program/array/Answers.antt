@@ -1,7 +1,6 @@
 -- Eight tokens, as a header.
-use mathlib.Core.Path.{◌≡◌, refl, sym, ◌∙◌}
-use lib.ListN.{length}
-use Rattle.grammar.proofs.Steps.{hit, miss, room, room_at, room_on}
+use mathlib.Core.Path.{refl}
+use Rattle.grammar.proofs.Steps.{hit, miss}
 use Rattle.grammar.proofs.ItemLaws.{array_unnamed, array_bare, array_untyped, array_bad, array_done}
 use native.Mathlib.Omega.{arith}
 use Rattle.grammar.proofs.program.array.Goals as goal

@@ -1,7 +1,6 @@
 -- Parameters, result and body, and their header in the gap before them.
-use mathlib.Core.Path.{◌≡◌, refl, sym, ◌∙◌}
-use lib.ListN.{length}
-use Rattle.grammar.proofs.Steps.{hit, miss, room, room_at, room_on}
+use mathlib.Core.Path.{refl, ◌∙◌}
+use Rattle.grammar.proofs.Steps.{hit, miss, room_at}
 use Rattle.grammar.proofs.ItemLaws.{room_gap3, function_unnamed, function_unopened, function_params_bad, function_unclosed, function_result_bad, function_body_bad, function_done}
 use native.Mathlib.Omega.{arith}
 use Rattle.grammar.proofs.program.function.Goals as goal

@@ -1,7 +1,4 @@
 -- By the first word.
-use mathlib.Core.Path.{◌≡◌, refl, sym, ◌∙◌}
-use lib.ListN.{length}
-use Rattle.grammar.proofs.Steps.{hit, miss, room, room_at, room_on}
 use Rattle.grammar.proofs.ItemLaws.{item_array, item_function, item_none}
 use native.Mathlib.Omega.{arith}
 use Rattle.grammar.proofs.program.item_at.Goals as goal

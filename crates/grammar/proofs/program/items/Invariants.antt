@@ -1,12 +1,10 @@
 -- A loop over the program's items, up to its last token.
-use mathlib.Core.Path.{◌≡◌, refl, sym, ◌∙◌}
+use mathlib.Core.Path.{◌≡◌}
 use lib.ListN.{length}
-use Rattle.grammar.proofs.Steps.{hit, miss, room, room_at, room_on, Going, begun}
-use Prim.Native.Nat.{ℕ, ◌+◌}
+use Rattle.grammar.proofs.Steps.{Going}
+use Prim.Native.Nat.{◌+◌}
 use Rattle.grammar.specs.Parse.{items_of}
 use Rattle.grammar.specs.Told.{items_form}
-use Rattle.grammar.proofs.ItemLaws.{items_out, items_end, items_bad, items_again}
-use native.Mathlib.Omega.{arith}
 use Rattle.grammar.proofs.program.items.Given as goal
 
 abbrev pub invariant-loop-left : goal.invariant-loop-left

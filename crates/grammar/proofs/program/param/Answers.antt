@@ -1,7 +1,5 @@
 -- A typed name, as three words.
-use mathlib.Core.Path.{◌≡◌, refl, sym, ◌∙◌}
-use lib.ListN.{length}
-use Rattle.grammar.proofs.Steps.{hit, miss, room, room_at, room_on}
+use Rattle.grammar.proofs.Steps.{hit, miss}
 use Rattle.grammar.proofs.ItemLaws.{param_bad, param_done}
 use native.Mathlib.Omega.{arith}
 use Rattle.grammar.proofs.program.param.Goals as goal

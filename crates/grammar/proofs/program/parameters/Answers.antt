@@ -1,7 +1,4 @@
 -- None, or a list.
-use mathlib.Core.Path.{◌≡◌, refl, sym, ◌∙◌}
-use lib.ListN.{length}
-use Rattle.grammar.proofs.Steps.{hit, miss, room, room_at, room_on}
 use Rattle.grammar.proofs.ItemLaws.{parameters_none, parameters_some}
 use native.Mathlib.Omega.{arith}
 use Rattle.grammar.proofs.program.parameters.Goals as goal

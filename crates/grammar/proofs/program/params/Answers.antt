@@ -1,10 +1,6 @@
 -- A loop over the list: what was read since, and then the rest.
-use mathlib.Core.Path.{◌≡◌, refl, sym, ◌∙◌}
-use lib.ListN.{length}
-use Rattle.grammar.proofs.Steps.{hit, miss, room, room_at, room_on, Going, begun}
-use Prim.Native.Nat.{ℕ, ◌+◌}
-use Rattle.grammar.specs.Parse.{param_list_of}
-use Rattle.grammar.specs.Told.{params_form}
+use mathlib.Core.Path.{refl, ◌∙◌}
+use Rattle.grammar.proofs.Steps.{hit, miss, room_on, begun}
 use Rattle.grammar.proofs.ItemLaws.{params_out, params_bad, params_last, params_again}
 use native.Mathlib.Omega.{arith}
 use Rattle.grammar.proofs.program.params.Goals as goal

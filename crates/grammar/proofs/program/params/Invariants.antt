@@ -1,12 +1,10 @@
 -- A loop over the list: what was read since, and then the rest.
-use mathlib.Core.Path.{◌≡◌, refl, sym, ◌∙◌}
+use mathlib.Core.Path.{◌≡◌}
 use lib.ListN.{length}
-use Rattle.grammar.proofs.Steps.{hit, miss, room, room_at, room_on, Going, begun}
-use Prim.Native.Nat.{ℕ, ◌+◌}
+use Rattle.grammar.proofs.Steps.{Going}
+use Prim.Native.Nat.{◌+◌}
 use Rattle.grammar.specs.Parse.{param_list_of}
 use Rattle.grammar.specs.Told.{params_form}
-use Rattle.grammar.proofs.ItemLaws.{params_out, params_bad, params_last, params_again}
-use native.Mathlib.Omega.{arith}
 use Rattle.grammar.proofs.program.params.Given as goal
 
 abbrev pub invariant-loop-left : goal.invariant-loop-left

@@ -1,7 +1,4 @@
 -- Four tokens, and the second's value.
-use mathlib.Core.Path.{◌≡◌, refl, sym, ◌∙◌}
-use lib.ListN.{length}
-use Rattle.grammar.proofs.Steps.{hit, miss, room, room_at, room_on}
 use Rattle.grammar.proofs.ItemLaws.{size_unopened, size_unnumbered, size_unclosed, size_unended, size_done}
 use native.Mathlib.Omega.{arith}
 use Rattle.grammar.proofs.program.size.Goals as goal

@@ -1,10 +1,6 @@
 -- Statements and blocks: each way through is a law of the parser; the measure counts the blocks that may still nest.
-use Prim.Native.Nat.{ℕ, ◌<◌, ◌+◌, ◌*◌, ◌-◌, ◌≤◌}
-use mathlib.Core.Path.{◌≡◌, refl, sym, ◌∙◌}
-use lib.ListN.{length}
-use Rattle.grammar.specs.Parse.{stmts_of, block_of}
-use Rattle.grammar.specs.Told.{block_form}
-use Rattle.grammar.proofs.Steps.{hit, miss, Going, begun, room, room_at, room_on, room_put}
+use mathlib.Core.Path.{refl, sym, ◌∙◌}
+use Rattle.grammar.proofs.Steps.{hit, miss, begun, room, room_at, room_on}
 use Rattle.grammar.proofs.StmtLaws.{room_go, block_out, block_closed, block_deep, block_bad, block_open, block_done, stmts_out, stmts_end, stmts_bad, stmts_again, stmt_change, stmt_declare, stmt_if, stmt_while, stmt_return, stmt_emit, stmt_none, while_bad, while_body_bad, while_done, if_bad, if_first_bad, if_when, if_second_bad, if_choose}
 use native.Mathlib.Omega.{arith}
 use Rattle.grammar.proofs.statements.+block_choose_repeat_stmt_stmts.Goals as goal

@@ -1,7 +1,5 @@
 -- By the token after the name.
-use mathlib.Core.Path.{◌≡◌, refl, sym, ◌∙◌}
-use lib.ListN.{length}
-use Rattle.grammar.proofs.Steps.{hit, miss, room, room_at, room_put}
+use Rattle.grammar.proofs.Steps.{room_at}
 use Rattle.grammar.proofs.StmtLaws.{change_assign, change_store, change_run, change_none}
 use native.Mathlib.Omega.{arith}
 use Rattle.grammar.proofs.statements.change.Goals as goal

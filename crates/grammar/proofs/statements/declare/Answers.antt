@@ -1,7 +1,5 @@
 -- A typed name, and then a statement of one expression.
-use mathlib.Core.Path.{◌≡◌, refl, sym, ◌∙◌}
-use lib.ListN.{length}
-use Rattle.grammar.proofs.Steps.{hit, miss, room, room_at, room_put}
+use Rattle.grammar.proofs.Steps.{hit, miss, room_at}
 use Rattle.grammar.proofs.StmtLaws.{declare_bad, declare_unset, declare_done}
 use native.Mathlib.Omega.{arith}
 use Rattle.grammar.proofs.statements.declare.Goals as goal

@@ -1,7 +1,5 @@
 -- With an expression or without.
-use mathlib.Core.Path.{◌≡◌, refl, sym, ◌∙◌}
-use lib.ListN.{length}
-use Rattle.grammar.proofs.Steps.{hit, miss, room, room_at, room_put}
+use mathlib.Core.Path.{refl}
 use Rattle.grammar.proofs.StmtLaws.{give_leave, give_done}
 use native.Mathlib.Omega.{arith}
 use Rattle.grammar.proofs.statements.give.Goals as goal

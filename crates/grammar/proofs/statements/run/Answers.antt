@@ -1,7 +1,6 @@
 -- Arguments, their call, and the header in the gap before them.
-use mathlib.Core.Path.{◌≡◌, refl, sym, ◌∙◌}
-use lib.ListN.{length}
-use Rattle.grammar.proofs.Steps.{hit, miss, room, room_at, room_put}
+use mathlib.Core.Path.{refl}
+use Rattle.grammar.proofs.Steps.{hit, miss, room_at}
 use Rattle.grammar.proofs.StmtLaws.{run_bad, run_open, run_done}
 use native.Mathlib.Omega.{arith}
 use Rattle.grammar.proofs.statements.run.Goals as goal

@@ -1,7 +1,6 @@
 -- The header is written in the gap before the expression.
-use mathlib.Core.Path.{◌≡◌, refl, sym, ◌∙◌}
-use lib.ListN.{length}
-use Rattle.grammar.proofs.Steps.{hit, miss, room, room_at, room_put}
+use mathlib.Core.Path.{refl}
+use Rattle.grammar.proofs.Steps.{hit, miss, room_at}
 use Rattle.grammar.proofs.StmtLaws.{single_bad, single_done}
 use native.Mathlib.Omega.{arith}
 use Rattle.grammar.proofs.statements.single.Goals as goal

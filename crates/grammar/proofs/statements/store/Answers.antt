@@ -1,7 +1,6 @@
 -- An index and a value, and their header in the gap before them.
-use mathlib.Core.Path.{◌≡◌, refl, sym, ◌∙◌}
-use lib.ListN.{length}
-use Rattle.grammar.proofs.Steps.{hit, miss, room, room_at, room_put}
+use mathlib.Core.Path.{refl}
+use Rattle.grammar.proofs.Steps.{hit, miss, room_at}
 use Rattle.grammar.proofs.StmtLaws.{room_go, store_index_bad, store_unset, store_bad, store_done}
 use native.Mathlib.Omega.{arith}
 use Rattle.grammar.proofs.statements.store.Goals as goal

@@ -1,7 +1,4 @@
 -- None, or a type.
-use mathlib.Core.Path.{◌≡◌, refl, sym, ◌∙◌}
-use lib.ListN.{length}
-use Rattle.grammar.proofs.Steps.{hit, miss, room, room_at, room_on}
 use Rattle.grammar.proofs.ItemLaws.{result_none, result_some}
 use native.Mathlib.Omega.{arith}
 use Rattle.grammar.proofs.types.result.Goals as goal

@@ -1,7 +1,4 @@
 -- One of the two words.
-use mathlib.Core.Path.{◌≡◌, refl, sym, ◌∙◌}
-use lib.ListN.{length}
-use Rattle.grammar.proofs.Steps.{hit, miss, room, room_at, room_put}
 use Rattle.grammar.proofs.StmtLaws.{type_int, type_bool, type_none}
 use native.Mathlib.Omega.{arith}
 use Rattle.grammar.proofs.types.type_at.Goals as goal

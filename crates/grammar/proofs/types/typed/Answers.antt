@@ -1,7 +1,4 @@
 -- A name, a colon, a type.
-use mathlib.Core.Path.{◌≡◌, refl, sym, ◌∙◌}
-use lib.ListN.{length}
-use Rattle.grammar.proofs.Steps.{hit, miss, room, room_at, room_put}
 use Rattle.grammar.proofs.StmtLaws.{typed_unnamed, typed_bare, typed_type}
 use native.Mathlib.Omega.{arith}
 use Rattle.grammar.proofs.types.typed.Goals as goal

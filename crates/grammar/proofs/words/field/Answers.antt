@@ -1,7 +1,6 @@
 -- A token's word is read where there is such a token.
 use Rattle.grammar.specs.Told.{field_of}
 use borrow.Author.Tests.{lt-ltb, le-ltb}
-use mathlib.Core.Path.{sym, ap}
 use native.Mathlib.Omega.{arith}
 use Rattle.grammar.proofs.words.field.Goals as goal
 

@@ -1,5 +1,4 @@
 -- Eight stores, four at a time.
-use mathlib.Core.Path.{◌∙◌}
 use Rattle.grammar.proofs.StmtLaws.{eight}
 use native.Mathlib.Omega.{arith}
 use Rattle.grammar.proofs.words.header.Goals as goal

@@ -1,6 +1,5 @@
 -- One arm for each kind's number.
 use mathlib.Core.Path.{refl}
-use native.Mathlib.Omega.{arith}
 use Rattle.flat.specs.Words.{kind_of}
 use Rattle.interpreter.proofs.Moving as L
 use Rattle.interpreter.proofs.items.act.Goals as goal

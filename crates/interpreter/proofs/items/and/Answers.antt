@@ -1,5 +1,4 @@
 -- A left side of 0 decides.
-use mathlib.Core.Path.{refl}
 use native.Mathlib.Omega.{arith}
 use Rattle.interpreter.proofs.Moving as L
 use Rattle.interpreter.proofs.items.and.Goals as goal

@@ -1,5 +1,4 @@
 -- The index is tested, and then the element is pushed in its place.
-use mathlib.Core.Path.{refl}
 use native.Mathlib.Omega.{arith}
 use Rattle.interpreter.proofs.Moving as L
 use Rattle.interpreter.proofs.items.element.Goals as goal

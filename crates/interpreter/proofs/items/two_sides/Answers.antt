@@ -1,5 +1,4 @@
 -- The operator's value takes the operands' place, or it stops.
-use mathlib.Core.Path.{refl}
 use native.Mathlib.Omega.{arith}
 use Rattle.interpreter.proofs.Moving as L
 use Rattle.interpreter.proofs.items.two_sides.Goals as goal

@@ -1,6 +1,4 @@
 -- A local is a word of the room below the locals' end.
-use mathlib.Core.Path.{refl}
-use native.Mathlib.Omega.{arith}
 use Rattle.interpreter.proofs.Moving as L
 use Rattle.interpreter.proofs.operands.local.Goals as goal
 

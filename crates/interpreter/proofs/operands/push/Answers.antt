@@ -1,6 +1,4 @@
 -- A push sets one word above the operands, and those below stay.
-use mathlib.Core.Path.{refl}
-use native.Mathlib.Omega.{arith}
 use Rattle.interpreter.proofs.Moving as L
 use Rattle.interpreter.proofs.operands.push.Goals as goal
 

@@ -1,6 +1,4 @@
 -- The uppermost operand is the word below the operands' end.
-use mathlib.Core.Path.{refl}
-use native.Mathlib.Omega.{arith}
 use Rattle.interpreter.proofs.Moving as L
 use Rattle.interpreter.proofs.operands.top.Goals as goal
 

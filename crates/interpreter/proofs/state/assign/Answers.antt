@@ -1,7 +1,4 @@
 -- A local is a word of the room below the locals' end.
-use mathlib.Core.Path.{refl}
-use native.Mathlib.Omega.{arith}
-use Prim.Native.Nat.{◌-◌}
 use Rattle.interpreter.proofs.Changing as L
 use Rattle.interpreter.proofs.state.assign.Goals as goal
 

@@ -1,7 +1,4 @@
 -- The words from a to i are 0.
-use mathlib.Core.Path.{refl}
-use native.Mathlib.Omega.{arith}
-use Prim.Native.Nat.{◌-◌}
 use Rattle.interpreter.proofs.Changing as L
 use Rattle.interpreter.proofs.state.clear.Goals as goal
 

@@ -1,7 +1,4 @@
 -- The word above those that are logged is set, if it is within the room.
-use mathlib.Core.Path.{refl}
-use native.Mathlib.Omega.{arith}
-use Prim.Native.Nat.{◌-◌}
 use Rattle.interpreter.proofs.Changing as L
 use Rattle.interpreter.proofs.state.emit.Goals as goal
 

@@ -1,7 +1,5 @@
 -- The function's words are those of its entry.
 use mathlib.Core.Path.{refl}
-use native.Mathlib.Omega.{arith}
-use Prim.Native.Nat.{◌-◌}
 use Rattle.interpreter.proofs.Changing as L
 use Rattle.interpreter.proofs.state.function.Goals as goal
 

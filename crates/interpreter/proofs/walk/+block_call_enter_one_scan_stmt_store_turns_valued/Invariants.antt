@@ -1,13 +1,8 @@
 -- Each function of the cycle computes the flat meaning of what its words decode to. Measures: the activations that may still be made, then how deep
 -- blocks may still nest, then who calls whom.
-use Prim.Native.Nat.{◌-◌, ◌*◌, ◌+◌, ℕ, ◌<◌}
-use mathlib.Core.Path.{◌≡◌, refl, sym, ap, ◌∙◌}
-use native.Mathlib.Omega.{arith}
-use lib.ListN.{take, drop, length}
-use lib.Seq.{length-take-le}
+use Prim.Native.Nat.{◌*◌, ◌+◌}
+use lib.ListN.{take, drop}
 use Rattle.interpreter.specs.Post.{world, Grows}
-use Rattle.interpreter.proofs.Moving as M
-use Rattle.interpreter.proofs.Changing as C
 use Rattle.interpreter.proofs.Running as L
 use Rattle.interpreter.proofs.walk.+block_call_enter_one_scan_stmt_store_turns_valued.Given as goal
 

@@ -1,10 +1,7 @@
 -- A block goes on statement by statement; a statement's blocks stand behind its header, so that the words that are left grow fewer.
-use mathlib.Core.Path.{◌≡◌, refl, sym, ◌∙◌}
-use Prim.Native.Nat.{ℕ, ◌+◌, ◌*◌, ◌-◌, ◌<◌}
+use mathlib.Core.Path.{refl, sym, ◌∙◌}
+use Prim.Native.Nat.{◌+◌, ◌*◌}
 use native.Mathlib.Omega.{arith}
-use lib.ListN.{length}
-use Rattle.rules.specs.Tables.{result_of, globals_in}
-use Rattle.rules.proofs.Looking.{denied, granted}
 use Rattle.rules.proofs.Moving as M
 use Rattle.rules.proofs.Heading.{header_room, block_room, stmt_on}
 use Rattle.rules.proofs.Nesting as N

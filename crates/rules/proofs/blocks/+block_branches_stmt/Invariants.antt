@@ -1,14 +1,8 @@
 -- A block goes on statement by statement; a statement's blocks stand behind its header, so that the words that are left grow fewer.
-use mathlib.Core.Path.{◌≡◌, refl, sym, ◌∙◌}
-use Prim.Native.Nat.{ℕ, ◌+◌, ◌*◌, ◌-◌, ◌<◌}
-use native.Mathlib.Omega.{arith}
+use mathlib.Core.Path.{◌≡◌}
+use Prim.Native.Nat.{◌+◌, ◌*◌, ◌-◌}
 use lib.ListN.{length}
 use Rattle.rules.specs.Tables.{result_of, globals_in}
-use Rattle.rules.proofs.Looking.{denied, granted}
-use Rattle.rules.proofs.Moving as M
-use Rattle.rules.proofs.Heading.{header_room, block_room, stmt_on}
-use Rattle.rules.proofs.Nesting as N
-use Rattle.rules.proofs.Branching as B
 use Rattle.rules.proofs.Blocking as L
 use Rattle.rules.proofs.blocks.+block_branches_stmt.Given as goal
 

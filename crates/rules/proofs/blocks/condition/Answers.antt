@@ -1,5 +1,4 @@
 -- By the expression, and by its type.
-use Rattle.rules.proofs.Looking.{denied, granted}
 use Rattle.rules.proofs.Testing as L
 use Rattle.rules.proofs.blocks.condition.Goals as goal
 

@@ -1,8 +1,6 @@
 -- By the number of the arguments, and by their types.
 use mathlib.Core.Path.{◌∙◌}
-use native.Mathlib.Omega.{arith}
 use Rattle.rules.specs.Post.{made}
-use Rattle.rules.proofs.Looking.{denied, granted}
 use Rattle.rules.proofs.Making as L
 use Rattle.rules.proofs.calls.arguments.Goals as goal
 

@@ -1,6 +1,5 @@
 -- By the function that is found, and by its result type.
 use mathlib.Core.Path.{◌∙◌}
-use native.Mathlib.Omega.{arith}
 use Rattle.rules.proofs.Looking.{denied, granted}
 use Rattle.rules.proofs.Making as L
 use Rattle.rules.proofs.calls.call.Goals as goal

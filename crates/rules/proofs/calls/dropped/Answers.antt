@@ -1,6 +1,5 @@
 -- By the function that is found.
 use mathlib.Core.Path.{◌∙◌}
-use native.Mathlib.Omega.{arith}
 use Rattle.rules.proofs.Looking.{denied, granted}
 use Rattle.rules.proofs.Running as L
 use Rattle.rules.proofs.calls.dropped.Goals as goal

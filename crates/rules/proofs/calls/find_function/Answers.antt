@@ -1,5 +1,4 @@
 -- By the entry that is found, and by whether it is an array.
-use native.Mathlib.Omega.{arith}
 use Rattle.rules.proofs.Making as L
 use Rattle.rules.proofs.calls.find_function.Goals as goal
 

@@ -1,8 +1,5 @@
 -- A block goes on statement by statement; the blocks of a choice stand behind its header, so that the words that are left grow fewer.
-use Prim.Native.Nat.{ℕ, ◌+◌, ◌*◌, ◌-◌, ◌<◌}
 use native.Mathlib.Omega.{arith}
-use lib.ListN.{length}
-use Rattle.rules.proofs.Looking.{denied, granted}
 use Rattle.rules.proofs.Ending as L
 use Rattle.rules.proofs.endings.+ends_in_return_returns.Goals as goal
 

@@ -1,5 +1,4 @@
 -- Each word is the tree's.
-use native.Mathlib.Omega.{arith}
 use Rattle.rules.proofs.Heading as L
 use Rattle.rules.proofs.head.header_at.Goals as goal
 

@@ -1,6 +1,5 @@
 -- No entry above i has the name.
 use Rattle.rules.proofs.Looking as L
-use Rattle.rules.specs.Tables.{part}
 use mathlib.Core.Path.{refl}
 use native.Mathlib.Omega.{arith}
 use Rattle.rules.proofs.names.find_global.Goals as goal

@@ -1,6 +1,5 @@
 -- The bytes passed are the same.
 use Rattle.rules.proofs.Looking as L
-use Prim.Native.Nat.{◌-◌}
 use Rattle.rules.proofs.names.same_name.Goals as goal
 
 pub returns-then-n-m : goal.returns-then-n-m

@@ -1,5 +1,4 @@
 -- Each word is the tree's.
-use native.Mathlib.Omega.{arith}
 use mathlib.Core.Path.{refl}
 use Rattle.rules.proofs.nodes.item_at.Goals as goal
 

@@ -2,7 +2,6 @@
 use mathlib.Core.Path.{◌∙◌}
 use Rattle.rules.specs.Post.{made}
 use Rattle.rules.specs.Tables.{type_of}
-use Rattle.rules.proofs.Looking.{denied, granted}
 use Rattle.rules.proofs.Making as L
 use Rattle.rules.proofs.nodes.join.Goals as goal
 

@@ -1,7 +1,6 @@
 -- By the operands' types.
 use mathlib.Core.Path.{◌∙◌}
 use Rattle.rules.specs.Post.{made}
-use Rattle.rules.proofs.Looking.{denied, granted}
 use Rattle.rules.proofs.Making as L
 use Rattle.rules.proofs.nodes.strict.Goals as goal
 

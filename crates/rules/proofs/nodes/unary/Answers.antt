@@ -1,7 +1,6 @@
 -- By the operand's type.
 use mathlib.Core.Path.{◌∙◌}
 use Rattle.rules.specs.Post.{made}
-use Rattle.rules.proofs.Looking.{denied, granted}
 use Rattle.rules.proofs.Making as L
 use Rattle.rules.proofs.nodes.unary.Goals as goal
 

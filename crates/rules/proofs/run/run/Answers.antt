@@ -1,12 +1,10 @@
 -- By the scan of the arguments, then by the function that is named and by their types.
-use mathlib.Core.Path.{refl, sym, ap, ◌∙◌}
-use Prim.Native.Nat.{ℕ, ◌+◌, ◌*◌, ◌-◌}
+use mathlib.Core.Path.{◌∙◌}
+use Prim.Native.Nat.{◌*◌, ◌-◌}
 use native.Mathlib.Omega.{arith}
-use lib.ListN.{length, get_or}
-use lib.Seq.{drop-drop, get_or-drop}
 use Rattle.rules.proofs.Looking.{denied, granted}
 use Rattle.rules.proofs.Moving as M
-use Rattle.rules.proofs.Heading.{room_on, header_room}
+use Rattle.rules.proofs.Heading.{header_room}
 use Rattle.rules.proofs.Running as L
 use Rattle.rules.proofs.run.run.Goals as goal
 

@@ -1,8 +1,5 @@
 -- What was written so far, and what is left says the rest.
-use mathlib.Core.Path.{◌∙◌}
 use native.Mathlib.Omega.{arith}
-use Prim.Native.Nat.{◌-◌}
-use Rattle.rules.specs.Tables.{globals_in, locals_in}
 use Rattle.rules.proofs.Looking.{denied, granted}
 use Rattle.rules.proofs.Scanning as L
 use Rattle.rules.proofs.scan.scan.Goals as goal

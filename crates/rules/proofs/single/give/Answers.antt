@@ -1,6 +1,5 @@
 -- By the expression, and by its type.
 use native.Mathlib.Omega.{arith}
-use Rattle.rules.proofs.Looking.{denied, granted}
 use Rattle.rules.proofs.Stating as L
 use Rattle.rules.proofs.Moving as M
 use Rattle.rules.proofs.single.give.Goals as goal

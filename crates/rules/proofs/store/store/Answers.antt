@@ -1,6 +1,6 @@
 -- By both expressions, then by the array that is named and by their types.
 use native.Mathlib.Omega.{arith}
-use mathlib.Core.Path.{refl, sym, ◌∙◌}
+use mathlib.Core.Path.{sym, ◌∙◌}
 use Prim.Native.Nat.{◌+◌, ◌*◌}
 use lib.Seq.{drop-drop}
 use Rattle.rules.proofs.Looking.{denied, granted}

@@ -1,6 +1,5 @@
 -- The types passed are the same.
 use Rattle.rules.proofs.Looking as L
-use Prim.Native.Nat.{◌-◌}
 use Rattle.rules.proofs.types.same_types.Goals as goal
 
 pub loop-k-init : goal.loop-k-init

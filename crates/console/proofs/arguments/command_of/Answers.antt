@@ -1,0 +1,33 @@
+-- `command_of` meets its contract: each test is one of the definition's.
+use mathlib.Core.Path.{sym, ◌∙◌}
+use Rattle.language.specs.Tokens.{bytes}
+use Rattle.console.specs.Arguments.{command_of}
+use Rattle.console.proofs.arguments.command_of.Goals as goal
+
+pub returns-then-is_spelt : goal.returns-then-is_spelt
+unfolding command_of bytes
+returns-then-is_spelt c = rw (sym c.is_spelt.ensures ∙ c.if-is_spelt.true)
+
+pub returns-then-is_spelt-2 : goal.returns-then-is_spelt-2
+unfolding command_of bytes
+returns-then-is_spelt-2 c = rw (sym c.is_spelt.ensures ∙ c.if-is_spelt.false, sym c.is_spelt-2.ensures ∙ c.if-is_spelt-2.true)
+
+pub returns-then-is_spelt-3 : goal.returns-then-is_spelt-3
+unfolding command_of bytes
+returns-then-is_spelt-3 c = rw (sym c.is_spelt.ensures ∙ c.if-is_spelt.false, sym c.is_spelt-2.ensures ∙ c.if-is_spelt-2.false, sym c.is_spelt-3.ensures ∙ c.if-is_spelt-3.true)
+
+pub returns-then-is_spelt-4 : goal.returns-then-is_spelt-4
+unfolding command_of bytes
+returns-then-is_spelt-4 c = rw (sym c.is_spelt.ensures ∙ c.if-is_spelt.false, sym c.is_spelt-2.ensures ∙ c.if-is_spelt-2.false, sym c.is_spelt-3.ensures ∙ c.if-is_spelt-3.false, sym c.is_spelt-4.ensures ∙ c.if-is_spelt-4.true)
+
+pub returns-then-is_spelt-5 : goal.returns-then-is_spelt-5
+unfolding command_of bytes
+returns-then-is_spelt-5 c = rw (sym c.is_spelt.ensures ∙ c.if-is_spelt.false, sym c.is_spelt-2.ensures ∙ c.if-is_spelt-2.false, sym c.is_spelt-3.ensures ∙ c.if-is_spelt-3.false, sym c.is_spelt-4.ensures ∙ c.if-is_spelt-4.false, sym c.is_spelt-5.ensures ∙ c.if-is_spelt-5.true)
+
+pub returns-then-is_spelt-6 : goal.returns-then-is_spelt-6
+unfolding command_of bytes
+returns-then-is_spelt-6 c = rw (sym c.is_spelt.ensures ∙ c.if-is_spelt.false, sym c.is_spelt-2.ensures ∙ c.if-is_spelt-2.false, sym c.is_spelt-3.ensures ∙ c.if-is_spelt-3.false, sym c.is_spelt-4.ensures ∙ c.if-is_spelt-4.false, sym c.is_spelt-5.ensures ∙ c.if-is_spelt-5.false, sym c.is_spelt-6.ensures ∙ c.if-is_spelt-6.true)
+
+pub returns : goal.returns
+unfolding command_of bytes
+returns c = rw (sym c.is_spelt.ensures ∙ c.if-is_spelt.false, sym c.is_spelt-2.ensures ∙ c.if-is_spelt-2.false, sym c.is_spelt-3.ensures ∙ c.if-is_spelt-3.false, sym c.is_spelt-4.ensures ∙ c.if-is_spelt-4.false, sym c.is_spelt-5.ensures ∙ c.if-is_spelt-5.false, sym c.is_spelt-6.ensures ∙ c.if-is_spelt-6.false)

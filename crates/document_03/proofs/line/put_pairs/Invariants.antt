@@ -1,0 +1,11 @@
+-- `put_pairs` is safe and ends: what is left of the pairs grows less.
+use lib.ListN.{length}
+use Prim.Native.Nat.{◌-◌}
+use mathlib.Core.Path.{◌≡◌}
+use Rattle.document_03.proofs.line.put_pairs.Given as goal
+
+abbrev pub invariant-loop-i : goal.invariant-loop-i
+invariant-loop-i l = length l.bytes ≡ length l.initial.bytes
+
+abbrev pub decreases-loop-i : goal.decreases-loop-i
+decreases-loop-i l = l.n.value - l.i

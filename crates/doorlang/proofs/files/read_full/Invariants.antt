@@ -1,0 +1,9 @@
+-- Each turn leaves less to fill.
+use Rattle.std.proofs.Common.{length, ◌-◌, ◌≤◌, ◌≡◌}
+use Rattle.doorlang.proofs.files.read_full.Given as goal
+
+abbrev pub invariant-loop-done : goal.invariant-loop-done
+invariant-loop-done l = (length l.buffer ≡ length l.initial.buffer) × (l.done ≤ length l.buffer)
+
+abbrev pub decreases-loop-done : goal.decreases-loop-done
+decreases-loop-done l = length l.buffer - l.done
