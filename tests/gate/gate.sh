@@ -93,5 +93,20 @@ fresh
 echo 'small crate' >crates.txt
 expect "a crates.txt that rt cannot read" 1 1 "^rt: .*crates.txt: "
 
+# An rt that only prints this.
+stub() { # TEXT
+    mkdir -p bin
+    printf '#!/bin/sh\ncat <<"SAID"\n%s\nSAID\n' "$1" >bin/rt
+    chmod +x bin/rt
+}
+
+fresh
+stub "rt: nothing to do"
+PATH="$PWD/bin:$PATH" expect "an rt that does not count" 1 1 "rt ci did not run to its last line"
+
+fresh
+stub "1 passed, 0 failed"
+PATH="$PWD/bin:$PATH" expect "an rt that does not say ok" 2 1 "rt ci counts no failure and does not say ok"
+
 echo "$passed passed, $failed failed"
 [ "$failed" -eq 0 ]
