@@ -2,10 +2,11 @@
 use mathlib.Core.Path.{◌≡◌, refl, ap, sym, ◌∙◌}
 use mathlib.Core.List.{List, [], ◌∷◌}
 use mathlib.Core.Bool.{Bool, true, false}
-use Prim.Native.Nat.{ℕ, ◌-◌, ◌<◌, min}
+use Prim.Native.Nat.{ℕ, ◌-◌, min}
 use native.Mathlib.Omega.{arith}
 use lib.Dec.{eqb, leb}
-use lib.ListN.{length, take, drop, length-take, length-drop, drop_of_length-le}
+use lib.ListN.{length, take, drop, length-drop, drop_of_length-le}
+use lib.Pointwise.{pointwise}
 use lib.Seq.{take_all, take-length, drop-length}
 use borrow.Author.Tests.{leb-true, leb-false}
 use Rattle.word.specs.Bytes.{words_of_bytes}
@@ -13,17 +14,20 @@ use Rattle.word.specs.Choice.{both}
 use Rattle.language.specs.Tokens.{same, begins}
 use Rattle.language.specs.Meaning.{Outcome}
 use Rattle.processor.specs.declared.Status.{Status}
-use Rattle.tokens.proofs.Scan.{same_other}
 use Rattle.agreement.specs.Agreement.{agrees_of}
 
-pub begins_same : (v w : List ℕ) → same v (take (length v) w) ≡ begins v w
-unfolding begins same
-begins_same [] w = refl
-begins_same (a ∷ v) [] = refl
-begins_same (a ∷ v) (b ∷ w) = ap (both (eqb a b)) (begins_same v w)
+pub starts_begins : (w v : List ℕ) → pointwise eqb v (take (length v) w) ≡ begins v w
+unfolding begins
+starts_begins w [] = refl
+starts_begins [] (a ∷ v) = refl
+starts_begins (b ∷ w) (a ∷ v) = ap (both (eqb a b)) (starts_begins w v)
 
-pub begins_longer : (v w : List ℕ) → length w < length v → false ≡ begins v w
-begins_longer v w h = same_other v (take (length v) w) (λ e. absurd (omega (arith, simp length-take at e))) ∙ begins_same v w
+pub pointwise_same : (v w : List ℕ) → pointwise eqb v w ≡ same v w
+unfolding same
+pointwise_same [] [] = refl
+pointwise_same [] (b ∷ w) = refl
+pointwise_same (a ∷ v) [] = refl
+pointwise_same (a ∷ v) (b ∷ w) = ap (both (eqb a b)) (pointwise_same v w)
 
 -- Parts of a buffer: what is asked for, or all that there is.
 

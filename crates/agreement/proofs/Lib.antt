@@ -1,4 +1,5 @@
 pub mod Comparing
+pub mod Stops
 pub mod Decides
 pub mod Growing
 pub mod Spent

@@ -12,38 +12,19 @@ use interpreter::Outcome;
 use processor::Status;
 use word::bytes::word_of;
 
-// Whether two lists of words are the same.
-fn same(a: &[u32], b: &[u32]) -> bool
-    ensures { result ≡ same_of a.now b.now }
-{
-    if a.len() != b.len() {
-        return false;
-    }
-    let mut i: usize = 0;
-    while i < b.len() {
-        if a[i] != b[i] {
-            return false;
-        }
-        i += 1;
-    }
-    true
-}
-
-// Whether the words of these bytes are the same as those.
+// Whether the words of these bytes are the same as those. Each byte is named by its place, as `words_of_bytes_at` has it: with `as_chunks` and `from_le_bytes` the same
+// law would be needed of `first_chunks` and of `of_le_bytes` besides, and the loop would be no plainer.
 fn same_words(bytes: &[u8], words: &[u32]) -> bool
     ensures { result ≡ same_of (words_of_bytes bytes.now) words.now }
 {
     if bytes.len() / 4 != words.len() {
         return false;
     }
-    let mut i: usize = 0;
-    while i < words.len() {
+    for (i, word) in words.iter().enumerate() {
         let at = 4 * i;
-        let w = word_of(bytes[at], bytes[at + 1], bytes[at + 2], bytes[at + 3]);
-        if w != words[i] {
+        if word_of(bytes[at], bytes[at + 1], bytes[at + 2], bytes[at + 3]) != *word {
             return false;
         }
-        i += 1;
     }
     true
 }
@@ -52,59 +33,33 @@ fn same_words(bytes: &[u8], words: &[u32]) -> bool
 fn begins(a: &[u32], b: &[u32]) -> bool
     ensures { result ≡ begins_of a.now b.now }
 {
-    let n = a.len();
-    if n <= b.len() {
-        same(a, &b[..n])
-    } else {
-        false
-    }
+    b.starts_with(a)
 }
 
 fn exits(s: Status) -> bool
     ensures { result ≡ exits_of s }
 {
-    match s {
-        Status::Going => false,
-        Status::Exit => true,
-        Status::Trap(_) => false,
-        Status::Fault(_) => false,
-        Status::Limit => false,
-    }
+    matches!(s, Status::Exit)
 }
 
+#[tactic(auto, unfolding(crate::specs::Agreement::traps_with))]
 fn traps_with(t: u32, s: Status) -> bool
     ensures { result ≡ traps_with t s }
 {
-    match s {
-        Status::Going => false,
-        Status::Exit => false,
-        Status::Trap(u) => t == u,
-        Status::Fault(_) => false,
-        Status::Limit => false,
-    }
+    s == Status::Trap(t)
 }
 
 fn faults(s: Status) -> bool
     ensures { result ≡ faults_of s }
 {
-    match s {
-        Status::Going => false,
-        Status::Exit => false,
-        Status::Trap(_) => false,
-        Status::Fault(_) => true,
-        Status::Limit => false,
-    }
+    matches!(s, Status::Fault(_))
 }
 
 // Whether both left the same log and the same arrays.
 fn left_same(log: &[u32], arrays: &[u32], logged: &[u32], block: &[u8]) -> bool
     ensures { result ≡ both (same_of logged.now log.now) (same_of (words_of_bytes block.now) arrays.now) }
 {
-    if same(logged, log) {
-        same_words(block, arrays)
-    } else {
-        false
-    }
+    logged == log && same_words(block, arrays)
 }
 
 // Whether a run of a text, by its outcome, log and arrays, and one of its image, by its stop, what it logged and the block that its arrays are in, agree.
@@ -119,20 +74,8 @@ pub fn agree(
     ensures { result ≡ agrees_of (outcome_of outcome) log.now arrays.now status logged.now (words_of_bytes block.now) }
 {
     match outcome {
-        Outcome::Finished => if exits(status) {
-            left_same(log, arrays, logged, block)
-        } else {
-            false
-        },
-        Outcome::Trapped(t) => if traps_with(t, status) {
-            left_same(log, arrays, logged, block)
-        } else {
-            false
-        },
-        Outcome::OutOfFuel => if faults(status) {
-            false
-        } else {
-            begins(log, logged)
-        },
+        Outcome::Finished => exits(status) && left_same(log, arrays, logged, block),
+        Outcome::Trapped(t) => traps_with(t, status) && left_same(log, arrays, logged, block),
+        Outcome::OutOfFuel => !faults(status) && begins(log, logged),
     }
 }

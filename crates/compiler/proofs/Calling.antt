@@ -113,6 +113,37 @@ module _ {ws : List ℕ} {j n d at : ℕ} {us : List ℕ} where
         subst⁻¹ (λ (x : Args). Emits (passes (places_of x d) 0) at us us at) (no_arguments l (c ∙ z)) none;
   }
 
+-- So far: what the first k of n have, put before this, is what all have
+
+pub record PassesLeft (ws : List ℕ) (j n d at : ℕ) (us : List ℕ) (j' k at' : ℕ) (us' : List ℕ) : Type 0 where
+  pub rest : {r : ℕ} {us₂ : List ℕ} → Passes ws j' k d at' us' us₂ r → Passes ws j n d at us us₂ r
+
+pub record ArgumentsLeft (ws es : List ℕ) (near : Bool) (j n d at : ℕ) (us : List ℕ) (j' k at' : ℕ) (us' : List ℕ) : Type 0 where
+  pub rest : {r : ℕ} {us₂ : List ℕ} → Arguments ws es near j' k d at' us' us₂ r → Arguments ws es near j n d at us us₂ r
+
+module _ {ws : List ℕ} {j n d at : ℕ} {us : List ℕ} where
+  pub passes_all : PassesLeft ws j n d at us j n at us
+  passes_all = record { rest = λ {r} {us₂} (f : Passes ws j n d at us us₂ r). f }
+
+  pub passes_end : {j' k at' : ℕ} {us' : List ℕ} → PassesLeft ws j n d at us j' k at' us' → k ≡ 0 → Passes ws j n d at us us' at'
+  passes_end s z = s.rest (passes_none z)
+
+  module _ {es : List ℕ} {near : Bool} where
+    pub arguments_all : ArgumentsLeft ws es near j n d at us j n at us
+    arguments_all = record { rest = λ {r} {us₂} (f : Arguments ws es near j n d at us us₂ r). f }
+
+    pub arguments_end : {j' k at' : ℕ} {us' : List ℕ} → ArgumentsLeft ws es near j n d at us j' k at' us' → k ≡ 0 → Arguments ws es near j n d at us us' at'
+    arguments_end s z = s.rest (arguments_none z)
+
+  module _ {j' k at' start before below r₁ : ℕ} {us' us₁ : List ℕ} (z : k ≡ 0 → ⊥) (small : j' ≤ 1073741824) (st : Starts ws j' start) (w : Weighs ws start (k - 1) before)
+      (sum : d + before < 4294967296 → below ≡ d + before) where
+    pub passes_next : {p : Place} → PassesLeft ws j n d at us j' k at' us' → PlaceAt ws j' below p → Emits (passing p (k - 1)) at' us' us₁ r₁ → PassesLeft ws j n d at us start (k - 1) r₁ us₁
+    passes_next s pl v = record { rest = λ {r} {us₂} (f : Passes ws start (k - 1) d r₁ us₁ us₂ r). s.rest (passes_more ws j' k d at' z small st w sum pl v f) }
+
+    pub arguments_next : {es : List ℕ} {near : Bool} → ArgumentsLeft ws es near j n d at us j' k at' us' → Values ws es near j' below at' us' us₁ r₁ →
+        ArgumentsLeft ws es near j n d at us start (k - 1) r₁ us₁
+    arguments_next {es} {near} s v = record { rest = λ {r} {us₂} (f : Arguments ws es near start (k - 1) d r₁ us₁ us₂ r). s.rest (arguments_more ws j' k d at' z small st w sum v f) }
+
 -- The call
 
 module _ {ws es : List ℕ} {j n d at : ℕ} {us us₁ us₂ : List ℕ} {r₁ r₂ : ℕ} where

@@ -4,10 +4,8 @@ use native.Mathlib.Omega.{arith}
 use mathlib.Core.Path.{◌≡◌, refl, sym, ap, ◌∙◌, subst, subst⁻¹}
 use mathlib.Core.Bool.{Bool, true, false}
 use mathlib.Core.Bool as B
-use mathlib.Core.List.{List, [], ◌∷◌, ◌++◌, append_assoc}
+use mathlib.Core.List.{List, ◌++◌, append_assoc}
 use mathlib.Core.Option.{Option, none, some}
-use types.Run.{OneOf, miss}
-use denote.Enum.Declared.{tag_of}
 use lib.Dec.{eqb}
 use lib.ListN.{length}
 use borrow.Author.Tests.{eqb-true, eq-eqb}
@@ -24,14 +22,10 @@ use Rattle.codegen.specs.Places.{Place, temporary, above}
 use Rattle.codegen.specs.Operators.{skip, sense, operating, applying, result, relation, comparing, testing, always, reading}
 use Rattle.codegen.specs.Expressions.{place_of, places_of, code, codes, condition, calling, deciding_by}
 use Rattle.emission.specs.Tape.{Emits}
-use Rattle.emission.specs.contracts.Relation as Related
-use Rattle.emission.specs.declared.Relation.{Relation}
-use Rattle.emission.specs.declared.Relation.TheVariants as R
-use Rattle.emission.specs.Macros.{strict_of, related}
 use Rattle.emission.proofs.Laws.{after, after_if}
 use Rattle.compiler.specs.Lies.{first, Lies}
 use Rattle.compiler.specs.Lies as L
-use Rattle.compiler.specs.Post.{Starts, PlaceAt, SidesAt, RelationAt, Compares, entry_in, Values, Conditions, Calls, agree}
+use Rattle.compiler.specs.Post.{Starts, PlaceAt, SidesAt, RelationAt, Compares, entry_in, Values, Conditions, Calls, agree, strict_of_number}
 use Rattle.compiler.proofs.Views.{NumberAt, CallAt, UnaryAt, StrictAt, JoinAt, joining, is_number, is_call, is_unary, is_strict, is_join, ends, starts}
 use Rattle.compiler.proofs.Valuing.{next_room, room_small, other_is, broken}
 
@@ -160,8 +154,8 @@ not_both x y h e f = let z : ◌≡◌ {A = ℕ} 0 1 = clash (sym h ∙ ap (λ (
 
 -- Everything else
 
-pub strict_back : (o : Strict) → strict_of (strict_number o) ≡ o
-unfolding strict_of strict_number
+pub strict_back : (o : Strict) → strict_of_number (strict_number o) ≡ o
+unfolding strict_of_number strict_number
 strict_back eq = refl
 strict_back ne = refl
 strict_back lt = refl
@@ -205,7 +199,7 @@ module _ (ws es : List ℕ) (near t : Bool) (d j at to : ℕ) {us us₁ : List �
       record { each = λ (e : Expr) (i : ℕ) (l : Lies ws e i j) (h : 4 * d ≤ i). by h (room_small l h small) (is_strict l (re.only c turned es')) }
     where
       related : (o : Strict) → first ws j ≡ strict_number o → relation o ≡ some (c, turned)
-      related o n = ap relation (sym (ap strict_of n ∙ strict_back o)) ∙ sym (re.strict (re.only c turned es')) ∙ es'
+      related o n = ap relation (sym (ap strict_of_number n ∙ strict_back o)) ∙ sym (re.strict (re.only c turned es')) ∙ es'
 
       sided : (o : Strict) (a b : Expr) {i : ℕ} → 4 * d ≤ i → relation o ≡ some (c, turned) → next ≡ above (place_of a d) d → Lies ws a i middle → Lies ws b middle (j - 4) →
           Emits (condition (entry_in es) near (C.strict o a b) t d (to - at)) at us us₃ r₃
@@ -232,7 +226,7 @@ module _ (ws es : List ℕ) (near t : Bool) (d j at to : ℕ) {us us₁ : List �
       associated x y z f = subst (λ (w : List Instruction). Emits w at us us₂ r₂) (append_assoc x y z) f
 
       related : (o : Strict) → word ws (j - 4) ≡ 5 → first ws j ≡ strict_number o → relation o ≡ none
-      related o k n = ap relation (sym (ap strict_of n ∙ strict_back o)) ∙ sym (re.strict k) ∙ en
+      related o k n = ap relation (sym (ap strict_of_number n ∙ strict_back o)) ∙ sym (re.strict k) ∙ en
 
       strictly : (o : Strict) (a b : Expr) → relation o ≡ none → Emits (code (entry_in es) near (C.strict o a b) d ++ testing near t (temporary d) (to - at)) at us us₂ r₂ →
           Emits (condition (entry_in es) near (C.strict o a b) t d (to - at)) at us us₂ r₂
@@ -256,8 +250,3 @@ module _ (ws es : List ℕ) (near t : Bool) (d j at to : ℕ) {us us₁ : List �
       by (L.strict {o} {a} {b} k p l r) f = strictly o a b (related o k.kind p) f
       by (L.and k l p r) f = absurd (o k.kind)
       by (L.or k l p r) f = absurd (o k.kind)
-
--- no one branch
-pub related_none : (r : Relation) → OneOf (1 ∷ []) (tag_of Related.the_type r) → related r ≡ none
-related_none (R.One c t) h = absurd (miss (1 ∷ []) 0 tt h)
-related_none R.None h = refl

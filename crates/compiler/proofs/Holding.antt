@@ -10,7 +10,8 @@ use Rattle.flat.specs.Words.{word, count, block_length, entry, entries, bodies, 
 use Rattle.flat.proofs.Decode.{Past, onward, past_block}
 use Rattle.flat.proofs.Run.{past_entries, entries_long}
 use Rattle.codegen.specs.Owed.{nothing, Owed}
-use Rattle.compiler.specs.declared.Compiled.{Compiled}
+use Rattle.std.specs.Prelude.{Result}
+use Rattle.compiler.specs.declared.TooLong.{TooLong}
 use Rattle.compiler.specs.Standing.{Stand}
 use Rattle.compiler.specs.Functions.{FunctionAt}
 use Rattle.compiler.specs.Programs.{ProgramAt, Pictures, Compiles}
@@ -95,5 +96,5 @@ holds p more ws e l o = record {
     body : (f : ℕ) → f < length p.functions → Body ws (body_place p.functions (entry (length p.functions)) f) (get_or p.functions f nothing)
     body f b = bodies_stand p.functions (entry (length p.functions)) more l enough behind f b
 
-pub for_words : {ws bytes bytes' : List ℕ} {c : Compiled} → length ws ≤ 1073741824 → Pictures ws bytes c bytes' → Compiles ws bytes c bytes'
+pub for_words : {ws bytes bytes' : List ℕ} {c : Result ℕ TooLong} → length ws ≤ 1073741824 → Pictures ws bytes c bytes' → Compiles ws bytes c bytes'
 for_words {ws} l s = record { each = λ (p : Program) (more : List ℕ) (e : ws ≡ words_then p more) (o : Owed p). s.each p (holds p more ws e l o) }

@@ -23,10 +23,11 @@ use Rattle.codegen.proofs.Lengths.{function_len}
 use Rattle.emission.specs.Tape.{Emits}
 use Rattle.emission.proofs.Laws.{none, after}
 use Rattle.emission.proofs.Wordwise.{imaged}
-use Rattle.compiler.specs.declared.Compiled.TheVariants.{Image, TooLong}
+use Rattle.std.specs.Prelude.{Ok, Err}
+use Rattle.compiler.specs.declared.TooLong.{TooLong}
 use Rattle.compiler.specs.Post.{position, entry_in}
 use Rattle.compiler.specs.Functions.{FunctionAt, Functions, Measures, Nearness}
-use Rattle.compiler.specs.Programs.{FunctionsAt, Lengths, Layout, Bodies, ProgramAt, Gives, Pictures}
+use Rattle.compiler.specs.Programs.{FunctionsAt, Lengths, Fits, Exceeds, Bodies, ProgramAt, Gives, Pictures}
 
 abbrev long : Function → ℕ
 long g = length (function (λ _. 0) g)
@@ -115,11 +116,8 @@ module _ {ws es : List ℕ} {n : ℕ} where
               let e : m ≡ 262144 - (262144 - long (get_or gs f nothing)) = w.each (get_or gs f nothing) (a.each f (omega arith)) in
               (omega (arith, e, (s.each gs a c).0, further gs (omega arith)), filled es f p (entry_from gs 15) l (s.each gs a c).0 (s.each gs a c).1)
 
-      pub laying_long : {es' : List ℕ} → 131072 < p + m → Layout ws es' n 131073
-      laying_long {es'} b = record {
-        fits = λ (gs : List Function) (a : FunctionsAt ws gs) (c : length gs ≡ n) (z : 131073 ≤ 131072). absurd (omega arith);
-        long = λ (gs : List Function) (a : FunctionsAt ws gs) (c : length gs ≡ n) (z : 131072 < 131073). by gs a c;
-      }
+      pub laying_long : 131072 < p + m → Exceeds ws n
+      laying_long b = record { each = λ (gs : List Function) (a : FunctionsAt ws gs) (c : length gs ≡ n). by gs a c }
         where
           by : (gs : List Function) → FunctionsAt ws gs → length gs ≡ n → 131072 < entry_from gs 15 n
           by gs a c =
@@ -127,11 +125,11 @@ module _ {ws es : List ℕ} {n : ℕ} where
               let g : entry_from gs 15 n ≡ entry_from gs 15 (length gs) = ap (entry_from gs 15) (sym c) in
               omega (arith, e, g, (s.each gs a c).0, further gs (omega arith), entry_below gs 15 (f + 1) (omega arith))
 
-    pub laying_end : length es ≤ f → f ≤ length es → n < length es → p ≤ 131072 → Layout ws es n p
-    laying_end h l b small = record {
-      fits = λ (gs : List Function) (a : FunctionsAt ws gs) (c : length gs ≡ n) (z : p ≤ 131072).
+    pub laying_end : length es ≤ f → n < length es → p ≤ 131072 → Fits ws es n p
+    laying_end h b small = record {
+      small = small;
+      each = λ (gs : List Function) (a : FunctionsAt ws gs) (c : length gs ≡ n).
           ((s.each gs a c).0 ∙ entry_past gs 15 f (omega arith) ∙ ap (entry_from gs 15) c, λ (k : ℕ) (i : k < length es). (s.each gs a c).1 k (omega arith));
-      long = λ (gs : List Function) (a : FunctionsAt ws gs) (c : length gs ≡ n) (z : 131072 < p). absurd (omega arith);
     }
 
 -- By the table functions begin where they do
@@ -156,15 +154,15 @@ entry_most gs f = by (dec_lt f (length gs))
     by (yes h) = entry_below gs 15 f (omega arith)
     by (no h) = omega (arith, entry_past gs 15 f (omega arith))
 
-pub entries_are : {ws es : List ℕ} {n r : ℕ} → Layout ws es n r → r ≤ 131072 → n < length es → (gs : List Function) → FunctionsAt ws gs → length gs ≡ n → entry_in es ≡ entry_from gs functions_start
-entries_are {ws} {es} {n} {r} y small room gs a c = fun_ext (λ (f : ℕ). by f)
+pub entries_are : {ws es : List ℕ} {n r : ℕ} → Fits ws es n r → n < length es → (gs : List Function) → FunctionsAt ws gs → length gs ≡ n → entry_in es ≡ entry_from gs functions_start
+entries_are {ws} {es} {n} {r} y room gs a c = fun_ext (λ (f : ℕ). by f)
   where
     by : (f : ℕ) → entry_in es f ≡ entry_from gs 15 f
     by f =
-        let e : r ≡ entry_from gs 15 n = (y.fits gs a c small).0 in
+        let e : r ≡ entry_from gs 15 n = (y.each gs a c).0 in
         let g : entry_from gs 15 n ≡ entry_from gs 15 (length gs) = ap (entry_from gs 15) (sym c) in
-        table_at es f (omega arith) (entry_from gs 15) (y.fits gs a c small).1
-        (λ (h : length es ≤ f). entry_past gs 15 (length es - 1) (omega arith) ∙ sym (entry_past gs 15 f (omega arith))) (omega (arith, e, g, entry_most gs f))
+        table_at es f (omega arith) (entry_from gs 15) (y.each gs a c).1
+        (λ (h : length es ≤ f). entry_past gs 15 (length es - 1) (omega arith) ∙ sym (entry_past gs 15 f (omega arith))) (omega (arith, e, g, entry_most gs f, y.small))
 
 -- The code of functions, the last one first
 
@@ -230,37 +228,37 @@ pictured : (p : Program) {bs : List ℕ} → bs ≡ image_of (instructions_of p)
 unfolding image
 pictured p h = h
 
-module _ {ws es : List ℕ} {n r : ℕ} (en : n ≡ word ws 0) (y : Layout ws es n r) where
-  pub too_long : {bytes : List ℕ} → 131072 < r → Pictures ws bytes TooLong bytes
-  too_long {bytes} h = record { each = λ (p : Program) (a : ProgramAt ws p). by p a }
+pub too_long : (x : TooLong) {ws bytes : List ℕ} {n : ℕ} → n ≡ word ws 0 → Exceeds ws n → Pictures ws bytes (Err x) bytes
+too_long x {ws} {bytes} {n} en y = record { each = λ (p : Program) (a : ProgramAt ws p). by p a }
+  where
+    by : (p : Program) → ProgramAt ws p → Gives p bytes (Err x) bytes
+    by p a =
+        let c : length p.functions ≡ n = sym a.count ∙ sym en in
+        let e : entry_from p.functions 15 n ≡ entry_from p.functions 15 (length p.functions) = ap (entry_from p.functions 15) (sym c) in
+        (inl (omega (arith, image_long p, code_long p, e, y.each p.functions a.functions c)), refl)
+
+module _ {ws es : List ℕ} {n r : ℕ} (en : n ≡ word ws 0) (y : Fits ws es n r) where
+  pub no_room : (x : TooLong) {bytes : List ℕ} → length bytes < 4 * r → Pictures ws bytes (Err x) bytes
+  no_room x {bytes} h = record { each = λ (p : Program) (a : ProgramAt ws p). by p a }
     where
-      by : (p : Program) → ProgramAt ws p → Gives p bytes TooLong bytes
+      by : (p : Program) → ProgramAt ws p → Gives p bytes (Err x) bytes
       by p a =
           let c : length p.functions ≡ n = sym a.count ∙ sym en in
           let e : entry_from p.functions 15 n ≡ entry_from p.functions 15 (length p.functions) = ap (entry_from p.functions 15) (sym c) in
-          (inl (omega (arith, image_long p, code_long p, e, y.long p.functions a.functions c h)), refl)
+          (inr (omega (arith, image_long p, code_long p, e, (y.each p.functions a.functions c).0)), refl)
 
-  pub no_room : {bytes : List ℕ} → r ≤ 131072 → length bytes < 4 * r → Pictures ws bytes TooLong bytes
-  no_room {bytes} small h = record { each = λ (p : Program) (a : ProgramAt ws p). by p a }
-    where
-      by : (p : Program) → ProgramAt ws p → Gives p bytes TooLong bytes
-      by p a =
-          let c : length p.functions ≡ n = sym a.count ∙ sym en in
-          let e : entry_from p.functions 15 n ≡ entry_from p.functions 15 (length p.functions) = ap (entry_from p.functions 15) (sym c) in
-          (inr (omega (arith, image_long p, code_long p, e, (y.fits p.functions a.functions c small).0)), refl)
-
-  pub compiled : {us us₁ us₂ us₃ bytes bytes' : List ℕ} {m low s t k : ℕ} → r ≤ 131072 → n < length es → 131072 ≤ length us → m ≡ word ws 1 → k ≡ entry_in es m → Bodies ws es n r us us₁ low →
-      Emits traps low us₁ us₂ s → Emits (starting k) s us₂ us₃ t → bytes' ≡ bytes_of_words (take r us₃) ++ drop (4 * r) bytes → Pictures ws bytes (Image (4 * r)) bytes'
-  compiled {us} {us₁} {us₂} {us₃} {bytes} {bytes'} {m} {low} {s} {t} {k} small room wide em ek b tr st eb = record { each = λ (p : Program) (a : ProgramAt ws p). by p a }
+  pub compiled : {us us₁ us₂ us₃ bytes bytes' : List ℕ} {m low s t k : ℕ} → n < length es → 131072 ≤ length us → m ≡ word ws 1 → k ≡ entry_in es m → Bodies ws es n r us us₁ low →
+      Emits traps low us₁ us₂ s → Emits (starting k) s us₂ us₃ t → bytes' ≡ bytes_of_words (take r us₃) ++ drop (4 * r) bytes → Pictures ws bytes (Ok (4 * r)) bytes'
+  compiled {us} {us₁} {us₂} {us₃} {bytes} {bytes'} {m} {low} {s} {t} {k} room wide em ek b tr st eb = record { each = λ (p : Program) (a : ProgramAt ws p). by p a }
     where
       whole : (p : Program) → entry_in es ≡ entry_of p → k ≡ entry_of p p.main → Emits (functions_from (entry_in es) p.functions) r us us₁ low → Emits (instructions_of p) r us us₃ t
       whole p e f x = assembled p f st (after (subst (λ (v : ℕ → ℕ). Emits (functions_from v p.functions) r us us₁ low) e x) tr)
 
-      by : (p : Program) → ProgramAt ws p → Gives p bytes (Image (4 * r)) bytes'
+      by : (p : Program) → ProgramAt ws p → Gives p bytes (Ok (4 * r)) bytes'
       by p a =
           let c : length p.functions ≡ n = sym a.count ∙ sym en in
-          let e : entry_in es ≡ entry_of p = entries_are y small room p.functions a.functions c in
+          let e : entry_in es ≡ entry_of p = entries_are y room p.functions a.functions c in
           let g : entry_from p.functions 15 n ≡ entry_from p.functions 15 (length p.functions) = ap (entry_from p.functions 15) (sym c) in
-          let l : r ≡ length (instructions_of p) = omega (arith, code_long p, g, (y.fits p.functions a.functions c small).0) in
+          let l : r ≡ length (instructions_of p) = omega (arith, code_long p, g, (y.each p.functions a.functions c).0) in
           let f : k ≡ entry_of p p.main = ek ∙ ap (λ (v : ℕ → ℕ). v m) e ∙ ap (entry_of p) (em ∙ a.main) in
-          (omega (arith, l, image_long p), eb ∙ ap (λ (x : List ℕ). x ++ drop (4 * r) bytes) (pictured p (imaged (whole p e f (b.each p.functions a.functions c)) l (omega arith))))
+          (omega (arith, l, image_long p), eb ∙ ap (λ (x : List ℕ). x ++ drop (4 * r) bytes) (pictured p (imaged (whole p e f (b.each p.functions a.functions c)) l (omega (arith, y.small)))))

@@ -1,3 +1,4 @@
+pub mod Numbered
 pub mod Views
 pub mod Scanning
 pub mod Written

@@ -1,11 +1,12 @@
 -- Where values are, kind by kind, and the own code of items by it.
 use Prim.Native.Nat.{ℕ, ◌-◌, ◌≤◌, ◌<◌}
 use native.Mathlib.Omega.{arith}
+use native.Mathlib.Decide.{dec_lt}
 use mathlib.Core.Path.{◌≡◌, refl, sym, ap, ◌∙◌, subst, subst⁻¹}
-use mathlib.Core.Bool.{Bool, false}
+use mathlib.Core.Bool.{Bool, true, false}
 use mathlib.Core.List.{List}
 use mathlib.Core.Option.{Option, none, some}
-use borrow.Author.Tests.{lt-ltb, le-ltb, ne_eqb}
+use borrow.Author.Tests.{lt-ltb, le-ltb}
 use lib.Dec.{eqb}
 use lib.ListN.{length, get_or}
 use Rattle.word.specs.Choice.{pick, both}
@@ -19,15 +20,15 @@ use Rattle.codegen.specs.Operators.{result, operating, applying, relation, readi
 use Rattle.codegen.specs.Expressions.{place_of}
 use Rattle.emission.specs.declared.Place.{Place as Where}
 use Rattle.emission.specs.Tape.{Emits}
-use Rattle.emission.specs.Macros.{placed, array, unary_of, strict_of}
+use Rattle.emission.specs.Macros.{placed, array}
 use Rattle.compiler.specs.Lies.{first, second, Lies}
 use Rattle.compiler.specs.Lies as L
-use Rattle.compiler.specs.Post.{Starts, PlaceAt, SidesAt, Reads, Applies, Operates, Compares, RelationAt, position, entry_in}
+use Rattle.compiler.specs.Post.{Starts, PlaceAt, SidesAt, Reads, Applies, Operates, Compares, RelationAt, position, entry_in, unary_of_number, strict_of_number}
 use Rattle.compiler.proofs.Views.{NumberAt, LocalAt, UnaryAt, is_number, is_local, is_unary, ends}
 use Rattle.compiler.proofs.Deciding.{strict_back}
 
-unary_back : (o : Unary) → unary_of (unary_number o) ≡ o
-unfolding unary_of unary_number
+unary_back : (o : Unary) → unary_of_number (unary_number o) ≡ o
+unfolding unary_of_number unary_number
 unary_back T.negate = refl
 unary_back T.not = refl
 
@@ -50,28 +51,28 @@ module _ {ws : List ℕ} {j d : ℕ} where
         by : {e : Expr} {i : ℕ} → LocalAt ws i j e → local a ≡ place_of e d
         by v = ap local f ∙ ap (λ (x : Expr). place_of x d) (sym v.is)
 
-    pub place_unary : {a : ℕ} {p q : Place} → k ≡ 4 → a ≡ first ws j → PlaceAt ws (j - 4) d q → p ≡ result (unary_of a) q d → PlaceAt ws j d p
+    pub place_unary : {u : Unary} {p q : Place} → k ≡ 4 → u ≡ unary_of_number (first ws j) → PlaceAt ws (j - 4) d q → p ≡ result u q d → PlaceAt ws j d p
     unfolding place_of
-    place_unary {a} {p} {q} h f pl r = record { each = λ (e : Expr) (i : ℕ) (l : Lies ws e i j). by (is_unary l (sym kind ∙ h)) }
+    place_unary {u} {p} {q} h f pl r = record { each = λ (e : Expr) (i : ℕ) (l : Lies ws e i j). by (is_unary l (sym kind ∙ h)) }
       where
         by : {e : Expr} {i : ℕ} → UnaryAt ws i j e → p ≡ place_of e d
         by {e} {i} v =
-            r ∙ ap (λ (o : Unary). result o q d) (ap unary_of (f ∙ v.operator) ∙ unary_back v.o) ∙ ap (λ (x : Place). result v.o x d) (pl.each v.a i v.operand)
+            r ∙ ap (λ (o : Unary). result o q d) (f ∙ ap unary_of_number v.operator ∙ unary_back v.o) ∙ ap (λ (x : Place). result v.o x d) (pl.each v.a i v.operand)
             ∙ ap (λ (x : Expr). place_of x d) (sym v.is)
 
-    pub place_other : ((Unit {0} × (k ≡ 0 → ⊥)) × (k ≡ 1 → ⊥)) × (k ≡ 4 → ⊥) → PlaceAt ws j d (temporary d)
-    unfolding place_of
-    place_other r = record { each = λ (e : Expr) (i : ℕ) (l : Lies ws e i j). by l }
-      where
-        by : {e : Expr} {i : ℕ} → Lies ws e i j → temporary d ≡ place_of e d
-        by (L.number k p q) = absurd (r.0.0.1 (kind ∙ k.kind))
-        by (L.local k p q) = absurd (r.0.1 (kind ∙ k.kind))
-        by (L.element k p q l) = refl
-        by (L.call k p q l) = refl
-        by (L.unary k p l) = absurd (r.1 (kind ∙ k.kind))
-        by (L.strict k p l r) = refl
-        by (L.and k l p r) = refl
-        by (L.or k l p r) = refl
+  pub place_other : (word ws (j - 4) ≡ 0 → ⊥) → (word ws (j - 4) ≡ 1 → ⊥) → (word ws (j - 4) ≡ 4 → ⊥) → PlaceAt ws j d (temporary d)
+  unfolding place_of
+  place_other n o u = record { each = λ (e : Expr) (i : ℕ) (l : Lies ws e i j). by l }
+    where
+      by : {e : Expr} {i : ℕ} → Lies ws e i j → temporary d ≡ place_of e d
+      by (L.number k p q) = absurd (n k.kind)
+      by (L.local k p q) = absurd (o k.kind)
+      by (L.element k p q l) = refl
+      by (L.call k p q l) = refl
+      by (L.unary k p l) = absurd (u k.kind)
+      by (L.strict k p l r) = refl
+      by (L.and k l p r) = refl
+      by (L.or k l p r) = refl
 
 -- how many temporaries are in use then
 pub above_by : {p : Where} (q : Where) (d : ℕ) {r : ℕ} → p ≡ q → r ≡ above (placed q) d → r ≡ above (placed p) d
@@ -93,20 +94,20 @@ module _ {ws : List ℕ} {j d at : ℕ} {us us' : List ℕ} {r : ℕ} where
         (subst (λ (n : ℕ). Emits (reading (array x n) (place_of e d) d) at us us' r) ey (subst (λ (q : Place). Emits (reading (array x y) q d) at us us' r) (pl.each e i l) s));
   }
 
-  pub applies : {x : ℕ} {p : Place} → x ≡ first ws j → PlaceAt ws (j - 4) d p → Emits (applying (unary_of x) p d) at us us' r → Applies ws j d at us us' r
+  pub applies : {x : Unary} {p : Place} → x ≡ unary_of_number (first ws j) → PlaceAt ws (j - 4) d p → Emits (applying x p d) at us us' r → Applies ws j d at us us' r
   applies {x} {p} ex pl s = record {
     each = λ (o : Unary) (e : Expr) (i : ℕ) (n : first ws j ≡ unary_number o) (l : Lies ws e i (j - 4)).
-        subst (λ (u : Unary). Emits (applying u (place_of e d) d) at us us' r) (ap unary_of (ex ∙ n) ∙ unary_back o)
-        (subst (λ (q : Place). Emits (applying (unary_of x) q d) at us us' r) (pl.each e i l) s);
+        subst (λ (u : Unary). Emits (applying u (place_of e d) d) at us us' r) (ex ∙ ap unary_of_number n ∙ unary_back o)
+        (subst (λ (q : Place). Emits (applying x q d) at us us' r) (pl.each e i l) s);
   }
 
   module _ {middle next : ℕ} {p q : Place} (pl : PlaceAt ws middle d p) (pr : PlaceAt ws (j - 4) next q) where
-    pub operates : {x : ℕ} → x ≡ first ws j → Emits (operating (strict_of x) p q d) at us us' r → Operates ws j middle next d at us us' r
+    pub operates : {x : Strict} → x ≡ strict_of_number (first ws j) → Emits (operating x p q d) at us us' r → Operates ws j middle next d at us us' r
     operates {x} ex s = record {
       each = λ (o : Strict) (a b : Expr) (i : ℕ) (n : first ws j ≡ strict_number o) (la : Lies ws a i middle) (lb : Lies ws b middle (j - 4)).
-          subst (λ (u : Strict). Emits (operating u (place_of a d) (place_of b next) d) at us us' r) (ap strict_of (ex ∙ n) ∙ strict_back o)
-          (subst (λ (y : Place). Emits (operating (strict_of x) y (place_of b next) d) at us us' r) (pl.each a i la)
-          (subst (λ (y : Place). Emits (operating (strict_of x) p y d) at us us' r) (pr.each b middle lb) s));
+          subst (λ (u : Strict). Emits (operating u (place_of a d) (place_of b next) d) at us us' r) (ex ∙ ap strict_of_number n ∙ strict_back o)
+          (subst (λ (y : Place). Emits (operating x y (place_of b next) d) at us us' r) (pl.each a i la)
+          (subst (λ (y : Place). Emits (operating x p y d) at us us' r) (pr.each b middle lb) s));
     }
 
     pub compares : (near t : Bool) (c : Cond) (turned : Bool) (to : ℕ) → Emits (comparing near t c turned p q (to - at)) at us us' r → Compares ws near t c turned j middle next d at to us us' r
@@ -118,27 +119,27 @@ module _ {ws : List ℕ} {j d at : ℕ} {us us' : List ℕ} {r : ℕ} where
 
 -- the one branch that an item is
 
-pub relation_strict : {ws : List ℕ} {j k a : ℕ} {s : Option (Cond × Bool)} → k ≡ word ws (j - 4) → k ≡ 5 → a ≡ first ws j → s ≡ relation (strict_of a) → RelationAt ws j s
-relation_strict e h f g = record { strict = λ _. g ∙ ap (λ (n : ℕ). relation (strict_of n)) f; only = λ c turned _. sym e ∙ h }
+pub relation_strict : {ws : List ℕ} {j : ℕ} {o : Strict} {s : Option (Cond × Bool)} → word ws (j - 4) ≡ 5 → o ≡ strict_of_number (first ws j) → s ≡ relation o → RelationAt ws j s
+relation_strict h f g = record { strict = λ _. g ∙ ap relation f; only = λ c turned _. h }
 
 no_relation : {c : Cond} {turned : Bool} → ◌≡◌ {A = Option (Cond × Bool)} none (some (c, turned)) → ⊥
 no_relation h = let z : ◌≡◌ {A = ℕ} 0 1 = cc in omega arith
 
-pub relation_none : {ws : List ℕ} {j k : ℕ} → k ≡ word ws (j - 4) → (k ≡ 5 → ⊥) → RelationAt ws j none
-relation_none e h = record { strict = λ k. absurd (h (e ∙ k)); only = λ c turned f. absurd (no_relation f) }
+pub relation_none : {ws : List ℕ} {j : ℕ} → (word ws (j - 4) ≡ 5 → ⊥) → RelationAt ws j none
+relation_none h = record { strict = λ k. absurd (h k); only = λ c turned f. absurd (no_relation f) }
 
 -- `!` is known by two words
 
-pub both_words : {k x y n : ℕ} → k ≡ x → k ≡ 4 → n ≡ y → eqb n 1 ≡ both (eqb x 4) (eqb y 1)
-both_words {k} {x} {y} {n} e h f = ap (λ (m : ℕ). eqb m 1) f ∙ sym (ap (λ (m : ℕ). both (eqb m 4) (eqb y 1)) (sym e ∙ h))
+pub both_words : (x y : ℕ) {n : ℕ} {t : Bool} → t ≡ eqb x 4 → t ≡ true → n ≡ y → eqb n 1 ≡ both (eqb x 4) (eqb y 1)
+both_words x y e h f = ap (λ (m : ℕ). eqb m 1) f ∙ ap (λ (b : Bool). both b (eqb y 1)) (sym h ∙ e)
 
-pub other_word : (y : ℕ) {k x : ℕ} → k ≡ x → (k ≡ 4 → ⊥) → false ≡ both (eqb x 4) (eqb y 1)
-other_word y {k} {x} e h = sym (ap (λ (b : Bool). both b (eqb y 1)) (ne_eqb x 4 (λ (g : x ≡ 4). h (e ∙ g))))
+pub other_word : (x y : ℕ) {t : Bool} → t ≡ eqb x 4 → t ≡ false → false ≡ both (eqb x 4) (eqb y 1)
+other_word x y e h = ap (λ (b : Bool). both b (eqb y 1)) (sym h ∙ e)
 
 -- Where functions begin
 
 module _ (es : List ℕ) (f : ℕ) {w r : ℕ} where
-  pub entry_inside : f < length es → w ≡ get_or es f 0 → r ≡ position w → r ≡ entry_in es f
+  entry_inside : f < length es → w ≡ get_or es f 0 → r ≡ position w → r ≡ entry_in es f
   unfolding entry_in
   entry_inside h e g = g ∙ ap position (e ∙ sym (ap (λ (b : Bool). pick b (get_or es f 0) (get_or es (length es - 1) 0)) (lt-ltb f (length es) h)))
 
@@ -146,8 +147,10 @@ module _ (es : List ℕ) (f : ℕ) {w r : ℕ} where
   unfolding entry_in
   outside h e g = g ∙ ap position (e ∙ sym (ap (λ (b : Bool). pick b (get_or es f 0) (get_or es (length es - 1) 0)) (le-ltb f (length es) h)))
 
-  pub entry_last : length es ≤ f → w ≡ get_or es (length es - 1) 0 → r ≡ position w → r ≡ entry_in es f
-  entry_last = outside
-
-  pub entry_empty : length es ≡ 0 → w ≡ get_or es 0 0 → r ≡ position w → r ≡ entry_in es f
-  entry_empty z e g = outside (omega arith) (e ∙ ap (λ (n : ℕ). get_or es n 0) {x = 0} {y = length es - 1} (omega arith)) g
+  -- the last place of the table, where f is past it
+  pub entry_clamped : {i : ℕ} → (f < length es → i ≡ f) → (length es ≤ f → i ≡ length es - 1) → w ≡ get_or es i 0 → r ≡ position w → r ≡ entry_in es f
+  entry_clamped {i} a b e g = by (dec_lt f (length es))
+    where
+      by : Dec (f < length es) → r ≡ entry_in es f
+      by (yes h) = entry_inside h (e ∙ ap (λ (n : ℕ). get_or es n 0) (a h)) g
+      by (no h) = outside (omega arith) (e ∙ ap (λ (n : ℕ). get_or es n 0) (b (omega arith))) g

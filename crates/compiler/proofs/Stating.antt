@@ -34,23 +34,23 @@ upto {ws} {e} {i} h l = subst⁻¹ (λ (m : ℕ). Lies ws e i m) h l
 -- Results
 
 module _ {ws es : List ℕ} {near : Bool} {j at : ℕ} {us us₁ : List ℕ} {r₁ : ℕ} where
-  pub answer_call : {k : ℕ} → k ≡ word ws (j - 4) → k ≡ 3 → Calls ws es near j 0 at us us₁ r₁ → Answers ws es near j at us us₁ r₁
+  pub answer_call : word ws (j - 4) ≡ 3 → Calls ws es near j 0 at us us₁ r₁ → Answers ws es near j at us us₁ r₁
   unfolding answering
-  answer_call e h c = record { each = λ (x : Expr) (i : ℕ) (l : Lies ws x i j). by (is_call l (sym e ∙ h)) }
+  answer_call h c = record { each = λ (x : Expr) (i : ℕ) (l : Lies ws x i j). by (is_call l h) }
     where
       by : {x : Expr} {i : ℕ} → CallAt ws i j x → Emits (answering (entry_in es) near x) at us us₁ r₁
       by {i = i} v = subst⁻¹ (λ (x : Expr). Emits (answering (entry_in es) near x) at us us₁ r₁) v.is (c.each v.xs i v.arguments v.many (omega arith))
 
-  pub answer_value : {k r₂ : ℕ} {us₂ : List ℕ} {p : Place} → k ≡ word ws (j - 4) → (k ≡ 3 → ⊥) → PlaceAt ws j 0 p → Emits (bring p) at us us₁ r₁ → Values ws es near j 0 r₁ us₁ us₂ r₂ → Answers ws es near j at us us₂ r₂
+  pub answer_value : {r₂ : ℕ} {us₂ : List ℕ} {p : Place} → (word ws (j - 4) ≡ 3 → ⊥) → PlaceAt ws j 0 p → Emits (bring p) at us us₁ r₁ → Values ws es near j 0 r₁ us₁ us₂ r₂ → Answers ws es near j at us us₂ r₂
   unfolding answering
-  answer_value {k} {r₂} {us₂} {p} e h pl s v =
+  answer_value {r₂} {us₂} {p} h pl s v =
       record { each = λ (x : Expr) (i : ℕ) (l : Lies ws x i j). by l (after (subst (λ (q : Place). Emits (bring q) at us us₁ r₁) (pl.each x i l) s) (v.each x i l (omega arith))) }
     where
       by : {x : Expr} {i : ℕ} → Lies ws x i j → Emits (brought (entry_in es) near x) at us us₂ r₂ → Emits (answering (entry_in es) near x) at us us₂ r₂
       by (L.number k p q) f = f
       by (L.local k p q) f = f
       by (L.element k p q l) f = f
-      by (L.call k p q l) f = absurd (h (e ∙ k.kind))
+      by (L.call k p q l) f = absurd (h k.kind)
       by (L.unary k p l) f = f
       by (L.strict k p l r) f = f
       by (L.and k l p r) f = f
@@ -166,29 +166,28 @@ module _ {ws es : List ℕ} {near : Bool} {p at : ℕ} {us us₁ : List ℕ} {r�
 
 module _ {ws es : List ℕ} {near : Bool} {p at : ℕ} {us : List ℕ} where
   -- no statement stands there
-  pub statement_none : {k : ℕ} → k ≡ word ws p → (((((((Unit {0} × (k ≡ 0 → ⊥)) × (k ≡ 1 → ⊥)) × (k ≡ 2 → ⊥)) × (k ≡ 3 → ⊥)) × (k ≡ 5 → ⊥)) × (k ≡ 6 → ⊥)) × (k ≡ 7 → ⊥)) × (k ≡ 4 → ⊥) →
-      Statements ws es near p at us us at
-  statement_none {k} e h = record { each = λ (s : Stmt) (t : Standing ws s p). by t }
+  pub statement_none : 7 < word ws p → Statements ws es near p at us us at
+  statement_none h = record { each = λ (s : Stmt) (t : Standing ws s p). by t }
     where
       by : {s : Stmt} → Standing ws s p → Emits (statement (entry_in es) near s) at us us at
-      by (put k x b l) = absurd (h.0.0.0.0.0.0.0.1 (e ∙ k))
-      by (store k x y b l m) = absurd (h.0.0.0.0.0.0.1 (e ∙ k))
-      by (choose k b l s t) = absurd (h.0.0.0.0.0.1 (e ∙ k))
-      by (while k b l s) = absurd (h.0.0.0.0.1 (e ∙ k))
-      by (leave k) = absurd (h.1 (e ∙ k))
-      by (give k b l) = absurd (h.0.0.0.1 (e ∙ k))
-      by (emit k b l) = absurd (h.0.0.1 (e ∙ k))
-      by (run k b l) = absurd (h.0.1 (e ∙ k))
+      by (put k x b l) = absurd (omega arith)
+      by (store k x y b l m) = absurd (omega arith)
+      by (choose k b l s t) = absurd (omega arith)
+      by (while k b l s) = absurd (omega arith)
+      by (leave k) = absurd (omega arith)
+      by (give k b l) = absurd (omega arith)
+      by (emit k b l) = absurd (omega arith)
+      by (run k b l) = absurd (omega arith)
 
-  pub statement_far : {k j : ℕ} → k ≡ word ws p → (k ≡ 4 → ⊥) → j ≡ first_end ws p → 1073741824 < j → Statements ws es near p at us us at
-  statement_far {k} e h ej far = record { each = λ (s : Stmt) (t : Standing ws s p). by t }
+  pub statement_far : {j : ℕ} → (word ws p ≡ 4 → ⊥) → j ≡ first_end ws p → 1073741824 < j → Statements ws es near p at us us at
+  statement_far h ej far = record { each = λ (s : Stmt) (t : Standing ws s p). by t }
     where
       by : {s : Stmt} → Standing ws s p → Emits (statement (entry_in es) near s) at us us at
       by (put k x b l) = absurd (omega (arith, b))
       by (store k x y b l m) = absurd (omega (arith, b))
       by (choose k b l s t) = absurd (omega (arith, b))
       by (while k b l s) = absurd (omega (arith, b))
-      by (leave k) = absurd (h (e ∙ k))
+      by (leave k) = absurd (h k)
       by (give k b l) = absurd (omega (arith, b))
       by (emit k b l) = absurd (omega (arith, b))
       by (run k b l) = absurd (omega (arith, b))

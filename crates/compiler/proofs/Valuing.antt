@@ -1,11 +1,12 @@
 -- The code of a value, item by item from its end: what is left to emit gives, behind what was emitted, the whole.
 use Prim.Native.Nat.{ℕ, suc, ◌-◌, ◌*◌, ◌≤◌, ◌<◌}
 use native.Mathlib.Omega.{arith}
-use mathlib.Core.Path.{◌≡◌, refl, sym, ap, ◌∙◌, subst, subst⁻¹}
+use mathlib.Core.Path.{◌≡◌, refl, ap, ◌∙◌, subst, subst⁻¹}
 use mathlib.Core.Bool.{Bool, true, false}
 use mathlib.Core.List.{List, [], ◌∷◌, ◌++◌, append_assoc}
 use lib.Dec.{eqb}
 use lib.ListN.{length, length-append}
+use Rattle.std.specs.Int.{from_bool}
 use Rattle.word.specs.Choice.{pick}
 use Rattle.language.specs.Tree.{Strict}
 use Rattle.language.specs.Core.{Expr}
@@ -210,8 +211,9 @@ pub value_broken : (ws es : List ℕ) (near : Bool) (d j mid at : ℕ) {us : Lis
 value_broken ws es near d j mid at k st h = record { each = λ (e : Expr) (i : ℕ) (l : Lies ws e i j) (b : 4 * d ≤ i). broken l k st h }
 
 -- the number of a truth
-pub bit_true : {o : Bool} {v : ℕ} → o ≡ true → v ≡ 1 → v ≡ pick o 1 0
-bit_true e f = f ∙ sym (ap (λ (b : Bool). pick b 1 0) e)
+bit_by : (o : Bool) → from_bool o ≡ pick o 1 0
+bit_by true = refl
+bit_by false = refl
 
-pub bit_false : {o : Bool} {v : ℕ} → o ≡ false → v ≡ 0 → v ≡ pick o 1 0
-bit_false e f = f ∙ sym (ap (λ (b : Bool). pick b 1 0) e)
+pub bit_of : (o : Bool) {v : ℕ} → v ≡ from_bool o → v ≡ pick o 1 0
+bit_of o e = e ∙ bit_by o

@@ -1,3 +1,4 @@
+pub mod Code
 pub mod Lies
 pub mod Standing
 pub mod Post

@@ -2,7 +2,8 @@
 use Rattle.std.specs.Prelude.{ℕ, ◌+◌, ◌-◌, ◌*◌, ◌≤◌, ◌<◌, ◌≡◌, Bool, true, false, List, [], ◌∷◌, ◌++◌, ltb, leb, get_or, length}
 use Rattle.std.proofs.Math.Option.{Option, some}
 use Rattle.word.specs.Choice.{pick}
-use Rattle.language.specs.Tree.{Unary, Strict}
+use Rattle.language.specs.Tree as T
+use Rattle.language.specs.Tree.{Unary, negate, Strict, eq, ne, lt, le, gt, ge, add, sub, mul, div, rem}
 use Rattle.language.specs.Core.{Expr, Args}
 use Rattle.language.specs.Core as C
 use Rattle.processor.specs.declared.Cond.{Cond}
@@ -12,12 +13,19 @@ use Rattle.codegen.specs.Places.{Place, above}
 use Rattle.codegen.specs.Operators.{operating, applying, relation, reading, comparing}
 use Rattle.codegen.specs.Expressions.{place_of, places_of, code, codes, condition, passes, calling}
 use Rattle.emission.specs.Tape.{Emits}
-use Rattle.emission.specs.Macros.{strict_of}
 use Rattle.compiler.specs.Lies.{first, second, Lies, LieAll}
 
 -- how many operands an item of kind k takes; of a call that is its second word
 unfoldable pub operands_of : ℕ → ℕ → ℕ
 operands_of k b = get_or (0 ∷ 0 ∷ 1 ∷ b ∷ 1 ∷ 2 ∷ 1 ∷ 1 ∷ 2 ∷ []) k 0
+
+-- the unary operator with a number; past the table the last one
+unfoldable pub unary_of_number : ℕ → Unary
+unary_of_number o = get_or (negate ∷ []) o T.not
+
+-- the strict operator with a number; past the table the last one
+unfoldable pub strict_of_number : ℕ → Strict
+strict_of_number o = get_or (eq ∷ ne ∷ lt ∷ le ∷ gt ∷ ge ∷ add ∷ sub ∷ mul ∷ div ∷ []) o rem
 
 -- the expression that ends at j starts at r
 pub record Starts (ws : List ℕ) (j r : ℕ) : Type 0 where
@@ -105,7 +113,7 @@ pub record Aimed (j at to : ℕ) : Type 0 where
 
 -- the one branch that the item ending at j is, if it is one
 pub record RelationAt (ws : List ℕ) (j : ℕ) (s : Option (Cond × Bool)) : Type 0 where
-  pub strict : word ws (j - 4) ≡ 5 → s ≡ relation (strict_of (first ws j))
+  pub strict : word ws (j - 4) ≡ 5 → s ≡ relation (strict_of_number (first ws j))
   pub only : (c : Cond) (turned : Bool) → s ≡ some (c, turned) → word ws (j - 4) ≡ 5
 
 -- whether two truths are one

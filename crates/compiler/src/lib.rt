@@ -11,9 +11,14 @@ pub mod statements; // statements and blocks
 pub mod functions; // functions, and how long they are
 pub mod programs; // where functions begin, and the image
 
-// An image of so many bytes; or it is too long.
+// The words of a flat core program, and where its functions begin; whether branches reach all of the function whose code is made.
 #[derive(Clone, Copy)]
-pub enum Compiled {
-    Image(usize),
-    TooLong,
+pub struct Code<'a> {
+    pub words: &'a [u32],
+    pub entries: &'a [u32],
+    pub near: bool,
 }
+
+// Why there is no image: its code is longer than an image's may be, or than there is room for.
+#[derive(Clone, Copy, Debug, PartialEq, Eq)]
+pub struct TooLong;

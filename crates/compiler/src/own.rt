@@ -1,96 +1,94 @@
 // The own code of the item that ends at a position: what it does with the values of its operands, wherever they are.
 ghost use Rattle.std.specs.Prelude.{◌≡◌, ◌-◌, ◌≤◌, get_or, eqb};
 ghost use Rattle.word.specs.Choice.{pick, both};
-ghost use Rattle.emission.specs.Macros.{related};
+ghost use Rattle.emission.specs.Macros.{placed, optional};
+ghost use Rattle.emission.specs.OnTape.{OnTape};
 ghost use Rattle.compiler.specs.Lies.{first as first_of};
-ghost use Rattle.compiler.specs.Post.{Reads, Applies, Operates, Compares, RelationAt, agree};
+ghost use Rattle.compiler.specs.Post.{PlaceAt, Reads, Applies, Operates, Compares, RelationAt, agree};
 
-use crate::items::word;
-use crate::places::place_of;
-use emission::Relation;
+use crate::items::{is_kind, strict_operator, unary_operator};
+use crate::places::{Right, place_of};
 use emission::elements::reading;
 use emission::jumps::comparing;
 use emission::strict::{operating, relation};
+use emission::tape::Tape;
 use emission::unary::applying;
-use flat::{item, operator};
+use emission::{Array, Jump, Sides};
+use flat::item::Kind;
+use flat::operator::Unary;
 use processor::Cond;
+use word::lists::word;
 
 // An element of an array.
-pub fn element(words: &[u32], end: usize, d: u32, at: usize, out: &mut [u32]) -> usize
-    requires { (4 ≤ end) × (at ≤ 262144) }
-    ensures reads { Reads words.now end d at out.old out.new result }
-    ensures within { result ≤ at }
+pub fn element(words: &[u32], end: usize, d: u32, tape: &mut Tape)
+    requires { (4 ≤ end) × (tape.old.at ≤ 262144) }
+    ensures { OnTape (Reads words.now end d) tape.old tape.new }
 {
     let offset = word(words, end - 2);
     let size = word(words, end - 1);
     let p = place_of(words, end - 4, d);
-    reading(out, at, offset, size, p, d)
+    reading(tape, Array { offset, size }, p, d);
 }
 
 // A unary operator.
-pub fn unary(words: &[u32], end: usize, d: u32, at: usize, out: &mut [u32]) -> usize
+pub fn unary(words: &[u32], end: usize, d: u32, tape: &mut Tape)
     requires { 4 ≤ end }
-    ensures applies { Applies words.now end d at out.old out.new result }
-    ensures within { result ≤ at }
+    ensures { OnTape (Applies words.now end d) tape.old tape.new }
 {
-    let o = word(words, end - 2);
+    let o = unary_operator(words, end);
     let p = place_of(words, end - 4, d);
-    applying(out, at, o, p, d)
+    applying(tape, o, p, d);
 }
 
-// A strict operator: its right side starts at `middle`, with `next` temporaries in use.
-pub fn strict(
-    words: &[u32],
-    end: usize,
-    middle: usize,
-    next: u32,
-    d: u32,
-    at: usize,
-    out: &mut [u32],
-) -> usize
-    requires { (4 ≤ end) × (at ≤ 262144) }
-    ensures operates { Operates words.now end middle next d at out.old out.new result }
-    ensures within { result ≤ at }
+// Where the values of both sides are.
+fn places(words: &[u32], end: usize, right: Right, d: u32) -> Sides
+    requires { 4 ≤ end }
+    ensures left { PlaceAt words.now right.middle d (placed result.left) }
+    ensures right { PlaceAt words.now (end - 4) right.next (placed result.right) }
 {
-    let o = word(words, end - 2);
-    let left = place_of(words, middle, d);
-    let right = place_of(words, end - 4, next);
-    operating(out, at, o, left, right, d)
+    Sides {
+        left: place_of(words, right.middle, d),
+        right: place_of(words, end - 4, right.next),
+    }
+}
+
+// A strict operator.
+pub fn strict(words: &[u32], end: usize, right: Right, d: u32, tape: &mut Tape)
+    requires { (4 ≤ end) × (tape.old.at ≤ 262144) }
+    ensures { OnTape (Operates words.now end right.middle right.next d) tape.old tape.new }
+{
+    let o = strict_operator(words, end);
+    let both = places(words, end, right, d);
+    operating(tape, o, both, d);
 }
 
 // A comparison as a jump.
 pub fn compare(
     words: &[u32],
-    near: bool,
-    t: bool,
-    c: Cond,
-    turned: bool,
+    way: Jump,
+    comparison: (Cond, bool),
     end: usize,
-    middle: usize,
-    next: u32,
+    right: Right,
     d: u32,
-    at: usize,
-    to: usize,
-    out: &mut [u32],
-) -> usize
-    requires { (4 ≤ end) × ((at ≤ to) × (to ≤ 262144)) }
-    ensures compares { Compares words.now near t c turned end middle next d at to out.old out.new result }
-    ensures within { result ≤ at }
+    tape: &mut Tape,
+)
+    requires { (4 ≤ end) × (tape.old.at ≤ way.to) }
+    ensures { OnTape (λ at. Compares words.now way.near way.when comparison.0 comparison.1 end right.middle right.next d at way.to) tape.old tape.new }
 {
-    let left = place_of(words, middle, d);
-    let right = place_of(words, end - 4, next);
-    comparing(out, at, near, t, c, turned, left, right, to)
+    let both = places(words, end, right, d);
+    comparing(tape, way, comparison, both);
 }
 
-// The one branch that an item is as a condition, if it is one.
-pub fn relation_of(words: &[u32], end: usize) -> Relation
+// The one branch that an item is as a condition, if it is one: a comparison, and whether the sides are exchanged.
+pub fn relation_of(words: &[u32], end: usize) -> Option<(Cond, bool)>
     requires { 4 ≤ end }
-    ensures { RelationAt words.now end (related result) }
+    ensures { RelationAt words.now end (optional result) }
 {
-    if word(words, end - 4) == item::STRICT {
-        return relation(word(words, end - 2));
+    if is_kind(words, end, Kind::Strict) {
+        let o = strict_operator(words, end);
+        return relation(o);
     }
-    Relation::None
+    None
 }
 
 // Whether an item is `!`.
@@ -98,8 +96,8 @@ pub fn is_not(words: &[u32], end: usize) -> bool
     requires { 4 ≤ end }
     ensures { result ≡ both (eqb (get_or words.now (end - 4) 0) 4) (eqb (first_of words.now end) 1) }
 {
-    if word(words, end - 4) == item::UNARY {
-        return word(words, end - 2) == operator::NOT;
+    if is_kind(words, end, Kind::Unary) {
+        return word(words, end - 2) == Unary::Not as u32;
     }
     false
 }
@@ -108,8 +106,5 @@ pub fn is_not(words: &[u32], end: usize) -> bool
 pub fn aim(t: bool, other: bool, to: usize, at: usize) -> usize
     ensures { result ≡ pick (agree t other) to at }
 {
-    if t {
-        return if other { to } else { at };
-    }
-    if other { at } else { to }
+    if t == other { to } else { at }
 }

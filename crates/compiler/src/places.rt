@@ -1,29 +1,32 @@
 // Where values are: of the expression that ends at a position, of two sides, of arguments.
-ghost use Rattle.std.specs.Prelude.{◌≡◌, ◌+◌, ◌-◌, ◌*◌, ◌<◌, ◌≤◌};
+ghost use Rattle.std.specs.Prelude.{◌≡◌, ◌+◌, ◌-◌, ◌<◌, ◌≤◌};
 ghost use Rattle.codegen.specs.Places.{above as above_of};
 ghost use Rattle.emission.specs.Macros.{placed};
 ghost use Rattle.compiler.specs.Post.{PlaceAt, SidesAt, Weighs};
 
-use crate::items::{start_of, word};
+use crate::items::{kind_of, start_of, unary_operator};
 use emission::Place;
 use emission::unary::result;
-use flat::item;
+use flat::item::Kind;
+use word::lists::word;
 
-// Where the value is, when d temporaries are in use before.
+// Where the value is, when d temporaries are in use before. It calls itself, since an operator's place depends on its operand's.
 pub fn place_of(words: &[u32], end: usize, d: u32) -> Place
     ensures { PlaceAt words.now end d (placed result) }
 {
     if end < 4 {
         return Place::Temporary(d);
     }
-    let k = word(words, end - 4);
-    let a = word(words, end - 2);
-    match k {
-        item::NUMBER => Place::Constant(a),
-        item::LOCAL => Place::Local(a),
-        item::UNARY => {
+    let Ok(kind) = kind_of(words, end) else {
+        return Place::Temporary(d);
+    };
+    match kind {
+        Kind::Number => Place::Constant(word(words, end - 2)),
+        Kind::Local => Place::Local(word(words, end - 2)),
+        Kind::Unary => {
+            let o = unary_operator(words, end);
             let p = place_of(words, end - 4, d);
-            result(a, p, d)
+            result(o, p, d)
         }
         _ => Place::Temporary(d),
     }
@@ -35,9 +38,8 @@ pub fn above(p: Place, d: u32) -> u32
     ensures within { result ≤ d + 1 }
 {
     match p {
-        Place::Constant(n) => d,
-        Place::Local(y) => d,
-        Place::Temporary(j) => if d < 4294967295 { d + 1 } else { d },
+        Place::Constant(_) | Place::Local(_) => d,
+        Place::Temporary(_) => d.saturating_add(1),
     }
 }
 
@@ -60,7 +62,7 @@ pub fn sides(words: &[u32], end: usize, d: u32) -> Right
     Right { middle, next }
 }
 
-// How many temporaries the n arguments take that end at `end`.
+// How many temporaries the n arguments take that end at `end`. It calls itself, since the last one's place depends on how many those before it take.
 pub fn temporaries(words: &[u32], end: usize, n: u32) -> u32
     requires { end ≤ 1073741824 }
     ensures weighs { Weighs words.now end n result }

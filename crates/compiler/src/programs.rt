@@ -1,18 +1,20 @@
 // Whole programs: where functions begin, their code, and the image.
 ghost use Rattle.std.specs.Prelude.{◌+◌, ◌*◌, ◌≤◌, ◌<◌, length, get_or};
+ghost use Rattle.emission.specs.OnTape.{OnTape};
 ghost use Rattle.compiler.specs.Programs.{Lengths, Layout, Bodies, Compiles, Bounded};
 
-use crate::Compiled;
-use crate::calls::entry_of;
+use crate::calls::{MOST_INSTRUCTIONS, entry_of};
 use crate::functions::{function, is_near, measure};
-use crate::items::word;
+use crate::{Code, TooLong};
 use emission::image::{bytes, starting, traps};
+use emission::tape::Tape;
+use word::lists::word;
 
 // The position of the first function.
 pub const FUNCTIONS_START: usize = 15;
 
 // The longest code, in instructions.
-pub const MOST: usize = 131072;
+pub const MOST: usize = MOST_INSTRUCTIONS as usize;
 
 // How long the code of a function is.
 pub fn length_of(words: &[u32], entries: &[u32], base: usize, scratch: &mut [u32]) -> usize
@@ -21,79 +23,79 @@ pub fn length_of(words: &[u32], entries: &[u32], base: usize, scratch: &mut [u32
     ensures within { result ≤ 262144 }
 {
     let near = is_near(words, entries, base, scratch);
-    measure(words, entries, near, base, scratch)
+    let code = Code {
+        words,
+        entries,
+        near,
+    };
+    measure(code, base, scratch)
 }
 
-// Writes where n functions begin, and behind them where the last one ends: that position, or one past the longest code.
-pub fn layout(words: &[u32], n: usize, entries: &mut [u32], scratch: &mut [u32]) -> usize
+// Writes where n functions begin, and behind them where the last one ends: that position.
+pub fn layout(
+    words: &[u32],
+    n: usize,
+    entries: &mut [u32],
+    scratch: &mut [u32],
+) -> Result<usize, TooLong>
     requires { (3 + 4 * n ≤ 1073741824) × (n < length entries.old) }
     ensures { Layout words.now entries.new n result }
 {
-    let mut p: usize = FUNCTIONS_START;
-    let mut f: usize = 0;
-    while f < entries.len() {
+    let mut p = FUNCTIONS_START;
+    for f in 0..entries.len() {
         entries[f] = p as u32;
         if n <= f {
-            f += 1;
             continue;
         }
-        let long = length_of(words, entries, 3 + 4 * f, scratch);
-        if MOST < p + long {
-            return MOST + 1;
+        p += length_of(words, entries, 3 + 4 * f, scratch);
+        if MOST < p {
+            return Err(TooLong);
         }
-        p = p + long;
-        f += 1;
     }
-    p
+    Ok(p)
 }
 
-// The code of n functions, the last one first.
-pub fn bodies(
-    words: &[u32],
-    entries: &[u32],
-    n: usize,
-    end: usize,
-    scratch: &mut [u32],
-    out: &mut [u32],
-) -> usize
-    requires { (3 + 4 * n ≤ 1073741824) × (end ≤ 262144) }
-    ensures bodies { Bodies words.now entries.now n end out.old out.new result }
-    ensures within { result ≤ end }
+// The code of n functions, the last one first. What is said holds of any first n of them, so that n stands beside the words.
+pub fn bodies(words: &[u32], entries: &[u32], n: usize, scratch: &mut [u32], tape: &mut Tape)
+    requires { (3 + 4 * n ≤ 1073741824) × (tape.old.at ≤ 262144) }
+    ensures { OnTape (Bodies words.now entries.now n) tape.old tape.new }
 {
-    let mut f = n;
-    let mut at = end;
-    while 0 < f {
-        f = f - 1;
+    for f in (0..n).rev() {
         let near = is_near(words, entries, 3 + 4 * f, scratch);
-        at = function(words, entries, near, 3 + 4 * f, at, out);
+        let code = Code {
+            words,
+            entries,
+            near,
+        };
+        function(code, 3 + 4 * f, tape);
     }
-    at
 }
 
-// The image of the program that the words hold. `entries` has a word more than there are functions, `out` has room for the longest code.
+// The image of the program that the words hold, and its length in bytes. `entries` has a word more than there are functions, `out` has room for the longest code.
 pub fn compile(
     words: &[u32],
     entries: &mut [u32],
     scratch: &mut [u32],
     out: &mut [u32],
     image: &mut [u8],
-) -> Compiled
+) -> Result<usize, TooLong>
     requires { (length words.now ≤ 1073741824) × ((3 + 4 * get_or words.now 0 0 ≤ 1073741824) × ((get_or words.now 0 0 < length entries.old) × (131072 ≤ length out.old))) }
     ensures compiles { Compiles words.now image.old result image.new }
     ensures bounded { Bounded result }
 {
     let n = word(words, 0) as usize;
-    let end = layout(words, n, entries, scratch);
-    if MOST < end {
-        return Compiled::TooLong;
-    }
+    let end = layout(words, n, entries, scratch)?;
     if image.len() < 4 * end {
-        return Compiled::TooLong;
+        return Err(TooLong);
     }
-    let low = bodies(words, entries, n, end, scratch, out);
-    let stubs = traps(out, low);
+    let mut tape = Tape {
+        words: out,
+        at: end,
+    };
+    bodies(words, entries, n, scratch, &mut tape);
+    traps(&mut tape);
     let main = entry_of(entries, word(words, 1));
-    starting(out, stubs, main);
-    bytes(out, end, image);
-    Compiled::Image(4 * end)
+    starting(&mut tape, main);
+    bytes(tape.words, end, image);
+    Ok(4 * end)
 }

@@ -1,22 +1,28 @@
 // Statements and blocks. A block goes from its last statement to its first by halves: the second half's code is put first. What all have in common:
-//   words, entries       the program, and where its functions begin
-//   near                 whether branches reach all of the function
+//   code                 the program
 //   p, n                 where the header of a statement stands, and how many statements a block has
-//   at, out              where the code goes: before `at`
+//   tape                 where the code goes
 ghost use Rattle.std.specs.Prelude.{◌≡◌, ◌≤◌, get_or};
-ghost use Rattle.compiler.specs.Standing.{first_end, behind as behind_of};
+ghost use Rattle.emission.specs.OnTape.{OnTape};
+ghost use Rattle.compiler.specs.Code.{of_code};
+ghost use Rattle.compiler.specs.Standing.{first_end};
 ghost use Rattle.compiler.specs.Post.{Ready};
 ghost use Rattle.compiler.specs.Blocks.{Answers, Statements, Blocks, Skips, PassesOver};
 
-use crate::items::word;
+use crate::Code;
+use crate::items::is_kind;
 use crate::places::{above, place_of};
 use crate::values::{called, condition, value};
+use emission::Array;
 use emission::calls::assign;
 use emission::elements::writing;
 use emission::functions::{ecall, leaving, leaving_zero};
 use emission::jumps::{jump, jump_back};
 use emission::places::bring;
-use flat::{item, statement as kind};
+use emission::tape::Tape;
+use flat::item;
+use flat::statement::Kind;
+use word::lists::word;
 
 // No program has more words.
 pub const MOST_WORDS: usize = 1073741824;
@@ -36,249 +42,175 @@ pub fn skip(words: &[u32], p: usize, m: u32) -> usize
     ensures within { p ≤ result }
 {
     let mut q = p;
-    let mut i: u32 = 0;
-    while i < m {
+    for _ in 0..m {
         if MOST_WORDS < q {
             return q;
         }
         q = q + 8 + word(words, q + 7) as usize;
-        i += 1;
     }
     q
 }
 
-// A jump to `at` behind which a block of m statements begins at `low`, if it isn't empty.
-pub fn pass_over(m: u32, low: usize, at: usize, out: &mut [u32]) -> usize
-    requires { (low ≤ at) × (at ≤ 262144) }
-    ensures passes_over { PassesOver m at low out.old out.new result }
-    ensures within { result ≤ low }
+// A jump to position `to`, over the block of m statements that is written, if it isn't empty.
+pub fn pass_over(m: u32, to: usize, tape: &mut Tape)
+    requires { (tape.old.at ≤ to) × (to ≤ 262144) }
+    ensures { OnTape (PassesOver m to) tape.old tape.new }
 {
-    if m == 0 {
-        return low;
+    if m != 0 {
+        jump(tape, to);
     }
-    jump(out, low, at)
 }
 
 // A value comes to the register of results; a call's is there already.
-pub fn answering(
-    words: &[u32],
-    entries: &[u32],
-    near: bool,
-    end: usize,
-    at: usize,
-    out: &mut [u32],
-) -> usize
-    requires { Ready end at }
-    ensures answers { Answers words.now entries.now near end at out.old out.new result }
-    ensures within { result ≤ at }
+pub fn answering(code: Code, end: usize, tape: &mut Tape)
+    requires { Ready end tape.old.at }
+    ensures { OnTape (of_code Answers code.entry end) tape.old tape.new }
 {
     if end < 4 {
-        return at;
+        return;
     }
-    if word(words, end - 4) == item::CALL {
-        return called(words, entries, near, end, 0, at, out);
+    if is_kind(code.words, end, item::Kind::Call) {
+        called(code, end, 0, tape);
+        return;
     }
-    let p = place_of(words, end, 0);
-    let last = bring(out, at, p);
-    value(words, entries, near, end, 0, last, out)
+    let p = place_of(code.words, end, 0);
+    bring(tape, p);
+    value(code, end, 0, tape);
 }
 
 // A local's new value.
-fn put(
-    words: &[u32],
-    entries: &[u32],
-    near: bool,
-    p: usize,
-    end: usize,
-    at: usize,
-    out: &mut [u32],
-) -> usize
-    requires { Ready end at × ((get_or words.now p 0 ≡ 0) × (end ≡ first_end words.now p)) }
-    ensures statements { Statements words.now entries.now near p at out.old out.new result }
-    ensures within { result ≤ at }
+fn put(code: Code, p: usize, end: usize, tape: &mut Tape)
+    requires { Ready end tape.old.at × ((get_or code.words.now p 0 ≡ 0) × (end ≡ first_end code.words.now p)) }
+    ensures { OnTape (of_code Statements code.entry p) tape.old tape.new }
 {
-    let x = word(words, p + 1);
-    let place = place_of(words, end, 0);
-    let last = assign(out, at, place, x);
-    value(words, entries, near, end, 0, last, out)
+    let x = word(code.words, p + 1);
+    let place = place_of(code.words, end, 0);
+    assign(tape, place, x);
+    value(code, end, 0, tape);
 }
 
 // An element's new value.
-fn store(
-    words: &[u32],
-    entries: &[u32],
-    near: bool,
-    p: usize,
-    end: usize,
-    at: usize,
-    out: &mut [u32],
-) -> usize
-    requires { Ready end at × ((get_or words.now p 0 ≡ 1) × (end ≡ first_end words.now p)) }
-    ensures statements { Statements words.now entries.now near p at out.old out.new result }
-    ensures within { result ≤ at }
+fn store(code: Code, p: usize, end: usize, tape: &mut Tape)
+    requires { Ready end tape.old.at × ((get_or code.words.now p 0 ≡ 1) × (end ≡ first_end code.words.now p)) }
+    ensures { OnTape (of_code Statements code.entry p) tape.old tape.new }
 {
-    let second = end + 4 * word(words, p + 4) as usize;
+    let second = end + 4 * word(code.words, p + 4) as usize;
     if MOST_WORDS < second {
-        return at;
+        return;
     }
-    let offset = word(words, p + 1);
-    let size = word(words, p + 2);
-    let index = place_of(words, end, 0);
+    let offset = word(code.words, p + 1);
+    let size = word(code.words, p + 2);
+    let array = Array { offset, size };
+    let index = place_of(code.words, end, 0);
     let next = above(index, 0);
-    let v = place_of(words, second, next);
-    let last = writing(out, at, offset, size, index, v);
-    let right = value(words, entries, near, second, next, last, out);
-    value(words, entries, near, end, 0, right, out)
+    let v = place_of(code.words, second, next);
+    writing(tape, array, index, v);
+    value(code, second, next, tape);
+    value(code, end, 0, tape);
 }
 
 // A return with a value.
-fn give(
-    words: &[u32],
-    entries: &[u32],
-    near: bool,
-    p: usize,
-    end: usize,
-    at: usize,
-    out: &mut [u32],
-) -> usize
-    requires { Ready end at × ((get_or words.now p 0 ≡ 5) × (end ≡ first_end words.now p)) }
-    ensures statements { Statements words.now entries.now near p at out.old out.new result }
-    ensures within { result ≤ at }
+fn give(code: Code, p: usize, end: usize, tape: &mut Tape)
+    requires { Ready end tape.old.at × ((get_or code.words.now p 0 ≡ 5) × (end ≡ first_end code.words.now p)) }
+    ensures { OnTape (of_code Statements code.entry p) tape.old tape.new }
 {
-    let last = leaving(out, at);
-    answering(words, entries, near, end, last, out)
+    leaving(tape);
+    answering(code, end, tape);
 }
 
 // A value that is logged.
-fn emit(
-    words: &[u32],
-    entries: &[u32],
-    near: bool,
-    p: usize,
-    end: usize,
-    at: usize,
-    out: &mut [u32],
-) -> usize
-    requires { Ready end at × ((get_or words.now p 0 ≡ 6) × (end ≡ first_end words.now p)) }
-    ensures statements { Statements words.now entries.now near p at out.old out.new result }
-    ensures within { result ≤ at }
+fn emit(code: Code, p: usize, end: usize, tape: &mut Tape)
+    requires { Ready end tape.old.at × ((get_or code.words.now p 0 ≡ 6) × (end ≡ first_end code.words.now p)) }
+    ensures { OnTape (of_code Statements code.entry p) tape.old tape.new }
 {
-    let last = ecall(out, at);
-    answering(words, entries, near, end, last, out)
+    ecall(tape);
+    answering(code, end, tape);
 }
 
 // A choice: the second block, a jump over it, the first block, and the condition.
 #[cycle(block_choose_statement_turns)]
-fn choose(
-    words: &[u32],
-    entries: &[u32],
-    near: bool,
-    p: usize,
-    end: usize,
-    at: usize,
-    out: &mut [u32],
-) -> usize
-    requires { Ready end at × ((get_or words.now p 0 ≡ 2) × (end ≡ first_end words.now p)) }
-    ensures statements { Statements words.now entries.now near p at out.old out.new result }
-    ensures within { result ≤ at }
+fn choose(code: Code, p: usize, end: usize, tape: &mut Tape)
+    requires { Ready end tape.old.at × ((get_or code.words.now p 0 ≡ 2) × (end ≡ first_end code.words.now p)) }
+    ensures { OnTape (of_code Statements code.entry p) tape.old tape.new }
 {
-    let second = end + word(words, p + 1) as usize;
+    let second = end + word(code.words, p + 1) as usize;
     if MOST_WORDS < second {
-        return at;
+        return;
     }
-    let n = word(words, p + 5);
-    let m = word(words, p + 6);
-    let low = block(words, entries, near, second, m, at, out);
-    let behind = pass_over(m, low, at, out);
-    let last = block(words, entries, near, end, n, behind, out);
-    condition(words, entries, near, false, end, 0, last, low, out)
+    let n = word(code.words, p + 5);
+    let m = word(code.words, p + 6);
+    let behind = tape.at;
+    block(code, second, m, tape);
+    let low = tape.at;
+    pass_over(m, behind, tape);
+    block(code, end, n, tape);
+    condition(code, false, end, 0, low, tape);
 }
 
-// A loop: its jump back has the word before `at`, which is filled once the loop's start is known.
+// A loop: its jump back has the last word, which is filled once the loop's start is known.
 #[cycle(block_choose_statement_turns)]
-fn turns(
-    words: &[u32],
-    entries: &[u32],
-    near: bool,
-    p: usize,
-    end: usize,
-    at: usize,
-    out: &mut [u32],
-) -> usize
-    requires { Ready end at × ((get_or words.now p 0 ≡ 3) × (end ≡ first_end words.now p)) }
-    ensures statements { Statements words.now entries.now near p at out.old out.new result }
-    ensures within { result ≤ at }
+fn turns(code: Code, p: usize, end: usize, tape: &mut Tape)
+    requires { Ready end tape.old.at × ((get_or code.words.now p 0 ≡ 3) × (end ≡ first_end code.words.now p)) }
+    ensures { OnTape (of_code Statements code.entry p) tape.old tape.new }
 {
-    if at == 0 {
-        return 0;
+    let behind = tape.at;
+    if behind == 0 {
+        return;
     }
-    let n = word(words, p + 5);
-    let body = block(words, entries, near, end, n, at - 1, out);
-    let start = condition(words, entries, near, false, end, 0, body, at, out);
-    jump_back(out, at, start);
-    start
+    let n = word(code.words, p + 5);
+    tape.at -= 1;
+    block(code, end, n, tape);
+    condition(code, false, end, 0, behind, tape);
+    jump_back(tape, behind);
 }
 
 // One statement.
 #[cycle(block_choose_statement_turns)]
-fn statement(
-    words: &[u32],
-    entries: &[u32],
-    near: bool,
-    p: usize,
-    at: usize,
-    out: &mut [u32],
-) -> usize
-    requires { Ready p at }
-    ensures statements { Statements words.now entries.now near p at out.old out.new result }
-    ensures within { result ≤ at }
+fn statement(code: Code, p: usize, tape: &mut Tape)
+    requires { Ready p tape.old.at }
+    ensures { OnTape (of_code Statements code.entry p) tape.old tape.new }
 {
-    let k = word(words, p);
-    if k == kind::LEAVE {
-        return leaving_zero(out, at);
+    let Ok(kind) = Kind::try_from(word(code.words, p)) else {
+        return;
+    };
+    if let Kind::Leave = kind {
+        leaving_zero(tape);
+        return;
     }
-    let end = first_end(words, p);
+    let end = first_end(code.words, p);
     if MOST_WORDS < end {
-        return at;
+        return;
     }
-    match k {
-        kind::PUT => put(words, entries, near, p, end, at, out),
-        kind::STORE => store(words, entries, near, p, end, at, out),
-        kind::CHOOSE => choose(words, entries, near, p, end, at, out),
-        kind::WHILE => turns(words, entries, near, p, end, at, out),
-        kind::GIVE => give(words, entries, near, p, end, at, out),
-        kind::EMIT => emit(words, entries, near, p, end, at, out),
-        kind::RUN => called(words, entries, near, end, 0, at, out),
-        _ => at,
+    match kind {
+        Kind::Leave => {} // its code is put above
+        Kind::Put => put(code, p, end, tape),
+        Kind::Store => store(code, p, end, tape),
+        Kind::Choose => choose(code, p, end, tape),
+        Kind::While => turns(code, p, end, tape),
+        Kind::Give => give(code, p, end, tape),
+        Kind::Emit => emit(code, p, end, tape),
+        Kind::Run => called(code, end, 0, tape),
     }
 }
 
 // n statements from p on.
 #[cycle(block_choose_statement_turns)]
-pub fn block(
-    words: &[u32],
-    entries: &[u32],
-    near: bool,
-    p: usize,
-    n: u32,
-    at: usize,
-    out: &mut [u32],
-) -> usize
-    requires { Ready p at }
-    ensures blocks { Blocks words.now entries.now near p n at out.old out.new result }
-    ensures within { result ≤ at }
+pub fn block(code: Code, p: usize, n: u32, tape: &mut Tape)
+    requires { Ready p tape.old.at }
+    ensures { OnTape (of_code Blocks code.entry p n) tape.old tape.new }
 {
     if n == 0 {
-        return at;
+        return;
     }
     if n == 1 {
-        return statement(words, entries, near, p, at, out);
+        statement(code, p, tape);
+        return;
     }
     let m = n / 2;
-    let q = skip(words, p, m);
+    let q = skip(code.words, p, m);
     if MOST_WORDS < q {
-        return at;
+        return;
     }
-    let last = block(words, entries, near, q, n - m, at, out);
-    block(words, entries, near, p, m, last, out)
+    block(code, q, n - m, tape);
+    block(code, p, m, tape);
 }

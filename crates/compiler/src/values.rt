@@ -1,240 +1,184 @@
 // Expressions, as values and as conditions. Each function goes from the item that ends an expression to its left, and calls itself for what is on the right,
 // so that a long chain of operators takes no stack. What all have in common:
-//   words, entries       the program, and where its functions begin
-//   near                 whether branches reach all of the function
+//   code                 the program
 //   end                  the position behind the expression's last item
 //   d                    how many temporaries are in use
-//   at, out              where the code goes: before `at`
+//   tape                 where the code goes
 ghost use Rattle.std.specs.Prelude.{◌≡◌, false, ◌-◌, ◌≤◌, get_or, eqb};
 ghost use Rattle.word.specs.Choice.{both};
+ghost use Rattle.emission.specs.OnTape.{OnTape};
+ghost use Rattle.compiler.specs.Code.{of_code};
 ghost use Rattle.compiler.specs.Lies.{first};
 ghost use Rattle.compiler.specs.Post.{Values, Arguments, Conditions, Calls, Ready, Aimed};
 
 use crate::calls::{calling, plus};
-use crate::items::{start_of, word};
-use crate::own;
+use crate::items::{is_kind, kind_of, start_of};
 use crate::places::{place_of, sides, temporaries};
+use crate::{Code, own};
 use emission::calls::answered;
 use emission::places::{carry, settle};
-use emission::{Relation, jumps};
-use flat::item;
+use emission::tape::Tape;
+use emission::{Jump, jumps};
+use flat::item::Kind;
+use word::lists::word;
 
-// A value comes to its place.
+// A value comes to its place. After an operator with two sides it goes on where the left one ends, so that no range has the positions.
 #[cycle(arguments_called_condition_decided_joined_value)]
-pub fn value(
-    words: &[u32],
-    entries: &[u32],
-    near: bool,
-    end: usize,
-    d: u32,
-    at: usize,
-    out: &mut [u32],
-) -> usize
-    requires { Ready end at }
-    ensures values { Values words.now entries.now near end d at out.old out.new result }
-    ensures within { result ≤ at }
+pub fn value(code: Code, end: usize, d: u32, tape: &mut Tape)
+    requires { Ready end tape.old.at }
+    ensures { OnTape (of_code Values code.entry end d) tape.old tape.new }
 {
     let mut e = end;
-    let mut p = at;
     while 4 <= e {
-        let k = word(words, e - 4);
-        if k == item::ELEMENT {
-            p = own::element(words, e, d, p, out);
-            e = e - 4;
-            continue;
+        let Ok(kind) = kind_of(code.words, e) else {
+            return;
+        };
+        match kind {
+            Kind::Element => {
+                own::element(code.words, e, d, tape);
+                e -= 4;
+                continue;
+            }
+            Kind::Unary => {
+                own::unary(code.words, e, d, tape);
+                e -= 4;
+                continue;
+            }
+            Kind::Strict => {
+                let right = sides(code.words, e - 4, d);
+                own::strict(code.words, e, right, d, tape);
+                value(code, e - 4, right.next, tape);
+                e = right.middle;
+                continue;
+            }
+            Kind::Call => {
+                answered(tape, d);
+                called(code, e, d, tape);
+                return;
+            }
+            Kind::Join => {
+                joined(code, e, d, tape);
+                return;
+            }
+            _ => return,
         }
-        if k == item::UNARY {
-            p = own::unary(words, e, d, p, out);
-            e = e - 4;
-            continue;
-        }
-        if k == item::STRICT {
-            let s = sides(words, e - 4, d);
-            let middle = s.middle;
-            let next = s.next;
-            let last = own::strict(words, e, middle, next, d, p, out);
-            p = value(words, entries, near, e - 4, next, last, out);
-            e = middle;
-            continue;
-        }
-        if k == item::CALL {
-            let last = answered(out, p, d);
-            return called(words, entries, near, e, d, last, out);
-        }
-        if k == item::JOIN {
-            return joined(words, entries, near, e, d, p, out);
-        }
-        return p;
     }
-    p
 }
 
 // The value of `&&` or `||`: the right side's, or what the left side decides.
 #[cycle(arguments_called_condition_decided_joined_value)]
-fn joined(
-    words: &[u32],
-    entries: &[u32],
-    near: bool,
-    end: usize,
-    d: u32,
-    at: usize,
-    out: &mut [u32],
-) -> usize
-    requires { Ready end at × ((4 ≤ end) × (get_or words.now (end - 4) 0 ≡ 8)) }
-    ensures values { Values words.now entries.now near end d at out.old out.new result }
-    ensures within { result ≤ at }
+fn joined(code: Code, end: usize, d: u32, tape: &mut Tape)
+    requires { Ready end tape.old.at × ((4 ≤ end) × (get_or code.words.now (end - 4) 0 ≡ 8)) }
+    ensures { OnTape (of_code Values code.entry end d) tape.old tape.new }
 {
-    let middle = start_of(words, end - 4);
+    let middle = start_of(code.words, end - 4);
     if middle < 4 {
-        return at;
+        return;
     }
-    let other = word(words, middle - 4) == item::OR;
-    let v = if other { 1 } else { 0 };
-    let decided = settle(out, at, v, d);
-    let jumped = jumps::jump(out, decided, at);
-    let p = place_of(words, end - 4, d);
-    let moved = carry(out, jumped, p, d);
-    let last = value(words, entries, near, end - 4, d, moved, out);
-    condition(
-        words,
-        entries,
-        near,
-        other,
-        middle - 4,
-        d,
-        last,
-        decided,
-        out,
-    )
+    let other = is_kind(code.words, middle, Kind::Or);
+    let v = u32::from(other);
+    let behind = tape.at;
+    settle(tape, v, d);
+    let decided = tape.at;
+    jumps::jump(tape, behind);
+    let p = place_of(code.words, end - 4, d);
+    carry(tape, p, d);
+    value(code, end - 4, d, tape);
+    condition(code, other, middle - 4, d, decided, tape);
 }
 
 // A call, with the values of its arguments.
 #[cycle(arguments_called_condition_decided_joined_value)]
-pub fn called(
-    words: &[u32],
-    entries: &[u32],
-    near: bool,
-    end: usize,
-    d: u32,
-    at: usize,
-    out: &mut [u32],
-) -> usize
-    requires { Ready end at × (4 ≤ end) }
-    ensures calls { Calls words.now entries.now near end d at out.old out.new result }
-    ensures within { result ≤ at }
+pub fn called(code: Code, end: usize, d: u32, tape: &mut Tape)
+    requires { Ready end tape.old.at × (4 ≤ end) }
+    ensures { OnTape (of_code Calls code.entry end d) tape.old tape.new }
 {
-    let last = calling(words, entries, end, d, at, out);
-    let n = word(words, end - 1);
-    arguments(words, entries, near, end - 4, n, d, last, out)
+    calling(code, end, d, tape);
+    let n = word(code.words, end - 1);
+    arguments(code, end - 4, n, d, tape);
 }
 
 // The values of n arguments that end at `end`, the last one first.
 #[cycle(arguments_called_condition_decided_joined_value)]
-fn arguments(
-    words: &[u32],
-    entries: &[u32],
-    near: bool,
-    end: usize,
-    n: u32,
-    d: u32,
-    at: usize,
-    out: &mut [u32],
-) -> usize
-    requires { Ready end at }
-    ensures arguments { Arguments words.now entries.now near end n d at out.old out.new result }
-    ensures within { result ≤ at }
+fn arguments(code: Code, end: usize, n: u32, d: u32, tape: &mut Tape)
+    requires { Ready end tape.old.at }
+    ensures { OnTape (of_code Arguments code.entry end n d) tape.old tape.new }
 {
-    if n == 0 {
-        return at;
+    let mut e = end;
+    for i in (0..n).rev() {
+        let start = start_of(code.words, e);
+        let before = temporaries(code.words, start, i);
+        let below = plus(d, before);
+        value(code, e, below, tape);
+        e = start;
     }
-    let start = start_of(words, end);
-    let before = temporaries(words, start, n - 1);
-    let below = plus(d, before);
-    let last = value(words, entries, near, end, below, at, out);
-    arguments(words, entries, near, start, n - 1, d, last, out)
 }
 
-// A jump to `to` where the expression's truth is t.
+// A jump to `to` where the expression's truth is t; it goes on as `value` does.
 #[cycle(arguments_called_condition_decided_joined_value)]
-pub fn condition(
-    words: &[u32],
-    entries: &[u32],
-    near: bool,
-    t: bool,
-    end: usize,
-    d: u32,
-    at: usize,
-    to: usize,
-    out: &mut [u32],
-) -> usize
-    requires { Aimed end at to }
-    ensures conditions { Conditions words.now entries.now near t end d at to out.old out.new result }
-    ensures within { result ≤ at }
+pub fn condition(code: Code, t: bool, end: usize, d: u32, to: usize, tape: &mut Tape)
+    requires { Aimed end tape.old.at to }
+    ensures { OnTape (λ at. of_code Conditions code.entry t end d at to) tape.old tape.new }
 {
     let mut truth = t;
     let mut e = end;
-    let mut p = at;
     let mut goal = to;
     while 4 <= e {
-        if own::is_not(words, e) {
+        if own::is_not(code.words, e) {
             truth = !truth;
-            e = e - 4;
+            e -= 4;
             continue;
         }
-        if word(words, e - 4) == item::JOIN {
-            let middle = start_of(words, e - 4);
+        if is_kind(code.words, e, Kind::Join) {
+            let middle = start_of(code.words, e - 4);
             if middle < 4 {
-                return p;
+                return;
             }
-            let other = word(words, middle - 4) == item::OR;
-            let last = condition(words, entries, near, truth, e - 4, d, p, goal, out);
-            goal = own::aim(truth, other, goal, p);
+            let other = is_kind(code.words, middle, Kind::Or);
+            let behind = tape.at;
+            condition(code, truth, e - 4, d, goal, tape);
+            goal = own::aim(truth, other, goal, behind);
             truth = other;
-            p = last;
             e = middle - 4;
             continue;
         }
-        return decided(words, entries, near, truth, e, d, p, goal, out);
+        decided(code, truth, e, d, goal, tape);
+        return;
     }
-    p
 }
 
 // The same of an expression that is neither `!` nor `&&` nor `||`.
 #[cycle(arguments_called_condition_decided_joined_value)]
-fn decided(
-    words: &[u32],
-    entries: &[u32],
-    near: bool,
-    t: bool,
-    end: usize,
-    d: u32,
-    at: usize,
-    to: usize,
-    out: &mut [u32],
-) -> usize
-    requires { Aimed end at to × ((4 ≤ end) × ((get_or words.now (end - 4) 0 ≡ 8 → ⊥) × (both (eqb (get_or words.now (end - 4) 0) 4) (eqb (first words.now end) 1) ≡ false))) }
-    ensures conditions { Conditions words.now entries.now near t end d at to out.old out.new result }
-    ensures within { result ≤ at }
+fn decided(code: Code, t: bool, end: usize, d: u32, to: usize, tape: &mut Tape)
+    requires { Aimed end tape.old.at to × ((4 ≤ end) × ((get_or code.words.now (end - 4) 0 ≡ 8 → ⊥) × (both (eqb (get_or code.words.now (end - 4) 0) 4) (eqb (first code.words.now end) 1) ≡ false))) }
+    ensures { OnTape (λ at. of_code Conditions code.entry t end d at to) tape.old tape.new }
 {
-    let k = word(words, end - 4);
-    if k == item::NUMBER {
-        let n = word(words, end - 2);
-        return jumps::always(out, at, t, n, to);
-    }
-    if k == item::CALL {
-        let last = jumps::testing_answer(out, at, near, t, to);
-        return called(words, entries, near, end, d, last, out);
-    }
-    let r = own::relation_of(words, end);
-    let Relation::One(c, turned) = r else {
-        let p = place_of(words, end, d);
-        let last = jumps::testing(out, at, near, t, p, to);
-        return value(words, entries, near, end, d, last, out);
+    let way = Jump {
+        near: code.near,
+        when: t,
+        to,
     };
-    let s = sides(words, end - 4, d);
-    let middle = s.middle;
-    let next = s.next;
-    let last = own::compare(words, near, t, c, turned, end, middle, next, d, at, to, out);
-    let right = value(words, entries, near, end - 4, next, last, out);
-    value(words, entries, near, middle, d, right, out)
+    if is_kind(code.words, end, Kind::Number) {
+        let n = word(code.words, end - 2);
+        jumps::always(tape, way, n);
+        return;
+    }
+    if is_kind(code.words, end, Kind::Call) {
+        jumps::testing_answer(tape, way);
+        called(code, end, d, tape);
+        return;
+    }
+    match own::relation_of(code.words, end) {
+        Some(comparison) => {
+            let right = sides(code.words, end - 4, d);
+            own::compare(code.words, way, comparison, end, right, d, tape);
+            value(code, end - 4, right.next, tape);
+            value(code, right.middle, d, tape);
+        }
+        None => {
+            let p = place_of(code.words, end, d);
+            jumps::testing(tape, way, p);
+            value(code, end, d, tape);
+        }
+    }
 }

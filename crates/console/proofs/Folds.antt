@@ -12,28 +12,40 @@ use borrow.Author.Tests.{le-leb, lt-leb, leb-false}
 use Rattle.word.specs.Choice.{pick}
 use Rattle.language.specs.Tokens.{is_digit, all, decimal}
 use Rattle.tokens.proofs.Lists.{both_true}
-use Rattle.console.specs.Arguments.{Line, line, fresh, see_of, see_all, ended, said}
+use Rattle.console.specs.Arguments.{then, fresh, see_of, see_all, ended, said}
 use Rattle.console.specs.declared.arguments.Command.{Command}
+use Rattle.console.specs.declared.arguments.Word.{Word}
+use Rattle.console.specs.declared.arguments.Wrong.{Wrong}
+use Rattle.console.specs.declared.arguments.Given.{Given}
 use Rattle.console.specs.declared.arguments.Seen.{Seen}
 use Rattle.console.specs.Places.{at, after_byte, after_all}
 use Rattle.console.specs.declared.place.Place.{Place}
 use Rattle.console.specs.Numbers.{Input, at_most, number_of, read_byte, read_bytes}
-use Rattle.console.specs.declared.numbers.Number.TheVariants.{Is, TooLarge, NoNumber}
+use Rattle.console.specs.declared.numbers.NumberError.TheVariants.{TooLarge, NoNumber}
+use Rattle.std.specs.Prelude.{Result, Ok, Err}
 
-module _ (c : Command) (ps : List ℕ) (i : ℕ) where
-  pub see_on : (w l m : Line) → w ≡ see_all c (drop i ps) (i + 2) l → i < length ps → m ≡ see_of c (get_or ps i 0) (i + 2) l → w ≡ see_all c (drop (i + 1) ps) (i + 1 + 2) m
-  unfolding see_all
-  see_on w l m e h q =
+module _ (c : Command) (ws : List Word) (i : ℕ) where
+  pub see_on : (r : Result Seen Wrong) (s t : Seen) (d : Word) → r ≡ see_all c (drop i ws) (i + 2) s → i < length ws → Ok t ≡ see_of c (get_or ws i d) (i + 2) s → r ≡ see_all c (drop (i + 1) ws) (i + 1 + 2) t
+  unfolding see_all then
+  see_on r s t d e h o =
       let n : suc (i + 2) ≡ suc i + 2 = omega arith in
-      e ∙ rw (drop-cons ps i 0 h, q, add-one i) (ap (λ k. see_all c (drop (suc i) ps) k (see_of c (get_or ps i 0) (i + 2) l)) n)
+      e ∙ rw (drop-cons ws i d h, sym o, add-one i) (ap (λ k. see_all c (drop (suc i) ws) k t) n)
 
-  pub see_out : (w l : Line) → w ≡ see_all c (drop i ps) (i + 2) l → length ps ≤ i → w ≡ l
+  pub see_off : (r : Result Seen Wrong) (s : Seen) (d : Word) (x : Wrong) → r ≡ see_all c (drop i ws) (i + 2) s → i < length ws → Err x ≡ see_of c (get_or ws i d) (i + 2) s → r ≡ Err x
+  unfolding see_all then
+  see_off r s d x e h o = e ∙ rw (drop-cons ws i d h, sym o)
+
+  pub see_out : (r : Result Seen Wrong) (s : Seen) → r ≡ see_all c (drop i ws) (i + 2) s → length ws ≤ i → r ≡ Ok s
   unfolding see_all
-  see_out w l e h = e ∙ rw (drop_of_length-le ps h)
+  see_out r s e h = e ∙ rw (drop_of_length-le ws h)
 
-pub said_out : (c : Command) (ps g : List ℕ) (r : Seen) (l : Line) → see_all c ps 2 (line fresh g) ≡ l → r ≡ ended c l.seen l.given → line r l.given ≡ said c ps g
-unfolding said
-said_out c ps g r l e h = rw (e, h)
+pub said_bad : (c : Command) (ws : List Word) (x : Wrong) (r : Result Given Wrong) → see_all c ws 2 fresh ≡ Err x → r ≡ Err x → r ≡ said c ws
+unfolding said then
+said_bad c ws x r e h = rw (e, h)
+
+pub said_good : (c : Command) (ws : List Word) (s : Seen) (r : Result Given Wrong) → see_all c ws 2 fresh ≡ Ok s → r ≡ ended c s → r ≡ said c ws
+unfolding said then
+said_good c ws s r e h = rw (e, h)
 
 -- An input text.
 
@@ -78,22 +90,22 @@ module _ (most : ℕ) (w : List ℕ) (n i d : ℕ) (inv : decimal 0 w ≡ decima
   unfolding decimal
   value_on h e = inv ∙ rw (drop-cons w i 0 h, e, add-one i)
 
-  pub value_off : i < length w → d ≡ get_or w i 0 - 48 → leb (n * 10 + d) most ≡ false → TooLarge ≡ at_most most (decimal 0 w)
+  pub value_off : i < length w → d ≡ get_or w i 0 - 48 → leb (n * 10 + d) most ≡ false → Err TooLarge ≡ at_most most (decimal 0 w)
   unfolding at_most
   value_off h e t =
       let more : n * 10 + d ≤ decimal 0 w = rw (value_on h e) (decimal_grows (n * 10 + d) (drop (i + 1) w)) in
       rw (lt-leb (decimal 0 w) most (omega (arith, leb-false (n * 10 + d) most t)))
 
-  pub value_out : length w ≤ i → n ≤ most → Is n ≡ at_most most (decimal 0 w)
+  pub value_out : length w ≤ i → n ≤ most → Ok n ≡ at_most most (decimal 0 w)
   unfolding at_most decimal
   value_out h m = let e : decimal 0 w ≡ n = inv ∙ rw (drop_of_length-le w h) in rw (e, le-leb n most m)
 
-pub no_digits : (most : ℕ) (w : List ℕ) → length w ≡ 0 → NoNumber ≡ number_of most w
+pub no_digits : (most : ℕ) (w : List ℕ) → length w ≡ 0 → Err NoNumber ≡ number_of most w
 unfolding number_of
 no_digits most [] e = refl
 no_digits most (b ∷ w) e = absurd (omega arith)
 
-pub some_digits : (most : ℕ) (w : List ℕ) → (length w ≡ 0 → ⊥) → pick (all is_digit w) (at_most most (decimal 0 w)) NoNumber ≡ number_of most w
+pub some_digits : (most : ℕ) (w : List ℕ) → (length w ≡ 0 → ⊥) → pick (all is_digit w) (at_most most (decimal 0 w)) (Err NoNumber) ≡ number_of most w
 unfolding number_of
 some_digits most [] n = absurd (n refl)
 some_digits most (b ∷ w) n = refl

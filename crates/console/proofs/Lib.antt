@@ -1,2 +1,5 @@
+pub mod Arms
+pub mod Compared
 pub mod Folds
+pub mod Phases
 pub mod Showing

@@ -1,9 +1,9 @@
 // The arguments: the command, and after it options, each with a value, and files, in any order.
-ghost use Rattle.std.specs.Prelude.{◌≡◌, ◌+◌, ◌<◌, ◌≤◌, ◌^◌, length, get_or, set};
+ghost use Rattle.std.specs.Prelude.{◌≡◌, ◌+◌, ◌<◌, ◌≤◌, ◌^◌, length};
 ghost use Rattle.language.specs.Tokens.{same, starts, is};
-ghost use Rattle.console.specs.Arguments.{command_of, place_of, run_takes, exec_takes, takes_of, files_of, line, wrong as wrong_of, is_option, valued, filed, named, see_of, ended, said};
+ghost use Rattle.console.specs.Arguments.{command_of, word_of, run_takes, exec_takes, takes_of, files_of, given_for, with_given, with_file, sources, valued, filed, named, see_of, ended, said};
 
-#[derive(Clone, Copy)]
+#[derive(Clone, Copy, PartialEq, Eq)]
 pub enum Command {
     Help,
     Check,
@@ -11,328 +11,373 @@ pub enum Command {
     Build,
     Exec,
     Compare,
+}
+
+// The options, by their names.
+#[derive(Clone, Copy, PartialEq, Eq)]
+pub enum Setting {
+    Input,
+    Block,
+    Fuel,
+    Limit,
+    Room,
+    Memory,
+}
+
+// What an argument is by its own: an option's name, one that is unknown, or any other word.
+#[derive(Clone, Copy)]
+pub enum Word {
+    Name(Setting),
+    Unknown,
     Other,
 }
 
-// The places of what may be given.
-pub const UNKNOWN: usize = 0;
-
-pub const INPUT: usize = 1;
-
-pub const BLOCK: usize = 2;
-
-pub const FUEL: usize = 3;
-
-pub const LIMIT: usize = 4;
-
-pub const ROOM: usize = 5;
-
-pub const MEMORY: usize = 6;
-
-pub const FIRST: usize = 7;
-
-pub const SECOND: usize = 8;
-
-pub const PLACES: usize = 9;
-
-// What is wrong with the arguments.
-pub const NOTHING: u32 = 0;
-
-pub const NOT_TAKEN: u32 = 1;
-
-pub const TWICE: u32 = 2;
-
-pub const NO_VALUE: u32 = 3;
-
-pub const TOO_MANY_FILES: u32 = 4;
-
-pub const NO_FILE: u32 = 5;
-
-pub const INPUT_AND_BLOCK: u32 = 6;
-
-// The arguments so far: what is wrong, and at which argument; the option whose value comes next; how many files there were.
+// What can be wrong with the arguments.
 #[derive(Clone, Copy)]
-pub struct Seen {
-    pub problem: u32,
+pub enum Problem {
+    NotTaken,
+    Twice,
+    NoValue,
+    TooManyFiles,
+    NoFile,
+    InputAndBlock,
+}
+
+// What is wrong, and at which argument.
+#[derive(Clone, Copy)]
+pub struct Wrong {
+    pub problem: Problem,
     pub at: usize,
-    pub expected: usize,
-    pub files: usize,
+}
+
+// Which argument is given as the value of each option, and as each of two files.
+#[derive(Clone, Copy)]
+pub struct Given {
+    pub input: Option<usize>,
+    pub block: Option<usize>,
+    pub fuel: Option<usize>,
+    pub limit: Option<usize>,
+    pub room: Option<usize>,
+    pub memory: Option<usize>,
+    pub first: Option<usize>,
+    pub second: Option<usize>,
+}
+
+// The arguments so far: what is given; the option whose value comes next; the argument that named an option last; how many files there were.
+#[derive(Clone, Copy)]
+struct Seen {
+    given: Given,
+    expected: Option<Setting>,
+    at: usize,
+    files: usize,
 }
 
 // Whether the word is this text.
 pub fn is_spelt(word: &[u8], text: &[u8]) -> bool
     ensures { result ≡ same word.now text.now }
 {
-    if word.len() != text.len() {
-        return false;
-    }
-    let mut i: usize = 0;
-    while i < text.len() {
-        if word[i] != text[i] {
-            return false;
-        }
-        i += 1;
-    }
-    true
+    word == text
 }
 
 fn begins_with_dash(word: &[u8]) -> bool
     ensures { result ≡ starts (is "-") word.now }
 {
-    if 0 < word.len() {
-        word[0] == b'-'
-    } else {
-        false
-    }
+    !word.is_empty() && word[0] == b'-'
 }
 
-pub fn command_of(word: &[u8]) -> Command
+// The command of this name.
+pub fn command_of(word: &[u8]) -> Option<Command>
     ensures { result ≡ command_of word.now }
 {
     if is_spelt(word, b"help") {
-        return Command::Help;
+        return Some(Command::Help);
     }
     if is_spelt(word, b"check") {
-        return Command::Check;
+        return Some(Command::Check);
     }
     if is_spelt(word, b"run") {
-        return Command::Run;
+        return Some(Command::Run);
     }
     if is_spelt(word, b"build") {
-        return Command::Build;
+        return Some(Command::Build);
     }
     if is_spelt(word, b"exec") {
-        return Command::Exec;
+        return Some(Command::Exec);
     }
     if is_spelt(word, b"compare") {
-        return Command::Compare;
+        return Some(Command::Compare);
     }
-    Command::Other
+    None
 }
 
-// The place that an argument is of, by its name.
-pub fn place_of(word: &[u8]) -> usize
-    ensures { result ≡ place_of word.now }
+pub fn word_of(word: &[u8]) -> Word
+    ensures { result ≡ word_of word.now }
 {
     if is_spelt(word, b"--input") {
-        return INPUT;
+        return Word::Name(Setting::Input);
     }
     if is_spelt(word, b"--block") {
-        return BLOCK;
+        return Word::Name(Setting::Block);
     }
     if is_spelt(word, b"--fuel") {
-        return FUEL;
+        return Word::Name(Setting::Fuel);
     }
     if is_spelt(word, b"--limit") {
-        return LIMIT;
+        return Word::Name(Setting::Limit);
     }
     if is_spelt(word, b"--room") {
-        return ROOM;
+        return Word::Name(Setting::Room);
     }
     if is_spelt(word, b"--memory") {
-        return MEMORY;
+        return Word::Name(Setting::Memory);
     }
     if begins_with_dash(word) {
-        return UNKNOWN;
+        return Word::Unknown;
     }
-    FIRST
+    Word::Other
 }
 
-// Whether a run of a text takes the option of that place.
-fn run_takes(place: usize) -> bool
-    ensures { result ≡ run_takes place }
-{
-    if place == UNKNOWN {
-        return false;
+impl Command {
+    // Whether the command takes the option.
+    #[tactic(auto, unfolding(crate::specs::Arguments::takes_of, crate::specs::Arguments::run_takes, crate::specs::Arguments::exec_takes))]
+    fn takes(self, setting: Setting) -> bool
+        ensures { result ≡ takes_of self setting }
+    {
+        match self {
+            Command::Help | Command::Check | Command::Build => false,
+            Command::Run | Command::Compare => match setting {
+                Setting::Input | Setting::Block | Setting::Fuel | Setting::Room => true,
+                Setting::Limit | Setting::Memory => false,
+            },
+            Command::Exec => match setting {
+                Setting::Input
+                | Setting::Block
+                | Setting::Limit
+                | Setting::Room
+                | Setting::Memory => true,
+                Setting::Fuel => false,
+            },
+        }
     }
-    if place == LIMIT {
-        return false;
-    }
-    place != MEMORY
-}
 
-// Whether a run of an image does.
-fn exec_takes(place: usize) -> bool
-    ensures { result ≡ exec_takes place }
-{
-    if place == UNKNOWN {
-        return false;
-    }
-    place != FUEL
-}
-
-// Whether the command takes the option of that place.
-fn takes(command: Command, place: usize) -> bool
-    ensures { result ≡ takes_of command place }
-{
-    match command {
-        Command::Help => false,
-        Command::Check => false,
-        Command::Run => run_takes(place),
-        Command::Build => false,
-        Command::Exec => exec_takes(place),
-        Command::Compare => run_takes(place),
-        Command::Other => false,
-    }
-}
-
-// How many files the command takes: two at most.
-fn files(command: Command) -> usize
-    ensures { (result ≡ files_of command) × (result ≤ 2) }
-{
-    match command {
-        Command::Help => 0,
-        Command::Check => 1,
-        Command::Run => 1,
-        Command::Build => 2,
-        Command::Exec => 1,
-        Command::Compare => 1,
-        Command::Other => 0,
+    // How many files the command takes: two at most.
+    #[tactic(auto, unfolding(crate::specs::Arguments::files_of))]
+    fn files(self) -> usize
+        ensures number { result ≡ files_of self }
+        ensures most { result ≤ 2 }
+    {
+        match self {
+            Command::Help => 0,
+            Command::Check | Command::Run | Command::Exec | Command::Compare => 1,
+            Command::Build => 2,
+        }
     }
 }
 
-// The argument that was given for a place; 0 for none.
-pub fn given_for(given: &[usize], place: usize) -> usize
-    ensures { result ≡ get_or given.now place 0 }
-{
-    if place < given.len() { given[place] } else { 0 }
-}
-
-fn give(given: &mut [usize], place: usize, i: usize)
-    ensures { given.new ≡ set given.old place i }
-{
-    if place < given.len() {
-        given[place] = i;
+impl Given {
+    // The argument that is given for an option.
+    #[tactic(auto, unfolding(crate::specs::Arguments::given_for))]
+    pub fn value(self, setting: Setting) -> Option<usize>
+        ensures { result ≡ given_for setting self }
+    {
+        match setting {
+            Setting::Input => self.input,
+            Setting::Block => self.block,
+            Setting::Fuel => self.fuel,
+            Setting::Limit => self.limit,
+            Setting::Room => self.room,
+            Setting::Memory => self.memory,
+        }
     }
-}
 
-// The same, with something wrong at argument i.
-fn wrong(problem: u32, i: usize, s: Seen) -> Seen
-    ensures { result ≡ wrong_of problem i s }
-{
-    Seen {
-        problem,
-        at: i,
-        expected: s.expected,
-        files: s.files,
+    // The same with argument i given for an option.
+    #[tactic(auto, unfolding(crate::specs::Arguments::with_given))]
+    fn with(self, setting: Setting, i: usize) -> Given
+        ensures { result ≡ with_given setting i self }
+    {
+        let value = Some(i);
+        match setting {
+            Setting::Input => Given {
+                input: value,
+                ..self
+            },
+            Setting::Block => Given {
+                block: value,
+                ..self
+            },
+            Setting::Fuel => Given {
+                fuel: value,
+                ..self
+            },
+            Setting::Limit => Given {
+                limit: value,
+                ..self
+            },
+            Setting::Room => Given {
+                room: value,
+                ..self
+            },
+            Setting::Memory => Given {
+                memory: value,
+                ..self
+            },
+        }
     }
-}
 
-// A file more.
-fn file(command: Command, i: usize, s: Seen, given: &mut [usize]) -> Seen
-    ensures { line result given.new ≡ filed command i (line s given.old) }
-{
-    let n = s.files;
-    if n < files(command) {
-        give(given, FIRST + n, i);
-        return Seen {
-            problem: NOTHING,
-            at: s.at,
-            expected: s.expected,
-            files: n + 1,
-        };
-    }
-    wrong(TOO_MANY_FILES, i, s)
-}
-
-// An option, whose value is to come.
-fn option(command: Command, place: usize, i: usize, s: Seen, given: &[usize]) -> Seen
-    ensures { result ≡ named command place i s given.now }
-{
-    if takes(command, place) {
-        if given_for(given, place) == 0 {
-            return Seen {
-                problem: NOTHING,
-                at: i,
-                expected: place,
-                files: s.files,
+    // The same with argument i as the file after so many.
+    #[tactic(auto, unfolding(crate::specs::Arguments::with_file))]
+    fn with_file(self, files: usize, i: usize) -> Given
+        ensures { result ≡ with_file files i self }
+    {
+        if files == 0 {
+            return Given {
+                first: Some(i),
+                ..self
             };
         }
-        return wrong(TWICE, i, s);
-    }
-    wrong(NOT_TAKEN, i, s)
-}
-
-// The value of the option that was before it.
-fn value(i: usize, s: Seen, given: &mut [usize]) -> Seen
-    ensures { line result given.new ≡ valued i (line s given.old) }
-{
-    give(given, s.expected, i);
-    Seen {
-        problem: NOTHING,
-        at: s.at,
-        expected: UNKNOWN,
-        files: s.files,
-    }
-}
-
-// Whether a word of this place is an option's name.
-fn is_option(place: usize) -> bool
-    ensures { result ≡ is_option place }
-{
-    if place == UNKNOWN {
-        return false;
-    }
-    place < FIRST
-}
-
-// Argument i, which is of this place by its name. An option's name is no value: the option before it has none.
-fn see(command: Command, place: usize, i: usize, s: Seen, given: &mut [usize]) -> Seen
-    ensures { line result given.new ≡ see_of command place i (line s given.old) }
-{
-    if s.problem != NOTHING {
-        return s;
-    }
-    if s.expected != UNKNOWN {
-        if is_option(place) {
-            return wrong(NO_VALUE, s.at, s);
+        Given {
+            second: Some(i),
+            ..self
         }
-        return value(i, s, given);
     }
-    if place == FIRST {
-        return file(command, i, s, given);
+
+    // The same, if there is at most one input block.
+    #[tactic(auto, unfolding(crate::specs::Arguments::sources))]
+    fn sources(self) -> Result<Given, Wrong>
+        ensures { result ≡ sources self.input self.block self }
+    {
+        match self.input {
+            None => Ok(self),
+            Some(_) => match self.block {
+                None => Ok(self),
+                Some(at) => Err(Wrong {
+                    problem: Problem::InputAndBlock,
+                    at,
+                }),
+            },
+        }
     }
-    option(command, place, i, s, given)
 }
 
-// What is still missing at the end, or too much.
-fn end(command: Command, s: Seen, given: &[usize]) -> Seen
-    ensures { result ≡ ended command s given.now }
-{
-    if s.problem != NOTHING {
-        return s;
+impl Seen {
+    // A file more.
+    fn file(self, command: Command, i: usize) -> Result<Seen, Wrong>
+        ensures { result ≡ filed command i self }
+    {
+        let files = self.files;
+        if files < command.files() {
+            return Ok(Seen {
+                given: self.given.with_file(files, i),
+                files: files + 1,
+                ..self
+            });
+        }
+        Err(Wrong {
+            problem: Problem::TooManyFiles,
+            at: i,
+        })
     }
-    if s.expected != UNKNOWN {
-        return wrong(NO_VALUE, s.at, s);
+
+    // An option, whose value is to come.
+    fn name(self, command: Command, setting: Setting, i: usize) -> Result<Seen, Wrong>
+        ensures { result ≡ named command setting i self }
+    {
+        if !command.takes(setting) {
+            return Err(Wrong {
+                problem: Problem::NotTaken,
+                at: i,
+            });
+        }
+        match self.given.value(setting) {
+            Some(_) => Err(Wrong {
+                problem: Problem::Twice,
+                at: i,
+            }),
+            None => Ok(Seen {
+                expected: Some(setting),
+                at: i,
+                ..self
+            }),
+        }
     }
-    if s.files < files(command) {
-        return wrong(NO_FILE, s.at, s);
+
+    // The value of the option that was before it. An option's name is no value: the option before it has none.
+    fn value(self, setting: Setting, word: Word, i: usize) -> Result<Seen, Wrong>
+        ensures { result ≡ valued setting word i self }
+    {
+        match word {
+            Word::Name(_) => Err(Wrong {
+                problem: Problem::NoValue,
+                at: self.at,
+            }),
+            Word::Unknown | Word::Other => Ok(Seen {
+                given: self.given.with(setting, i),
+                expected: None,
+                ..self
+            }),
+        }
     }
-    if given_for(given, INPUT) == 0 {
-        return s;
+
+    // Argument i.
+    fn see(self, command: Command, word: Word, i: usize) -> Result<Seen, Wrong>
+        ensures { result ≡ see_of command word i self }
+    {
+        if let Some(setting) = self.expected {
+            return self.value(setting, word, i);
+        }
+        match word {
+            Word::Name(setting) => self.name(command, setting, i),
+            Word::Unknown => Err(Wrong {
+                problem: Problem::NotTaken,
+                at: i,
+            }),
+            Word::Other => self.file(command, i),
+        }
     }
-    let b = given_for(given, BLOCK);
-    if b == 0 {
-        return s;
+
+    // What is given, if nothing is missing at the end, or too much.
+    fn end(self, command: Command) -> Result<Given, Wrong>
+        ensures { result ≡ ended command self }
+    {
+        let at = self.at;
+        if let Some(_) = self.expected {
+            return Err(Wrong {
+                problem: Problem::NoValue,
+                at,
+            });
+        }
+        if self.files < command.files() {
+            return Err(Wrong {
+                problem: Problem::NoFile,
+                at,
+            });
+        }
+        self.given.sources()
     }
-    wrong(INPUT_AND_BLOCK, b, s)
 }
 
-// All arguments after the command, of these places by their names; the first of them is argument 2.
-pub fn see_all(command: Command, places: &[usize], given: &mut [usize]) -> Seen
-    requires { length places.now < 2 ^ 32 }
-    ensures { line result given.new ≡ said command places.now given.old }
+// What all arguments after the command give; the first of them is argument 2.
+pub fn see_all(command: Command, words: &[Word]) -> Result<Given, Wrong>
+    requires { length words.now < 2 ^ 32 }
+    ensures { result ≡ said command words.now }
 {
-    let mut s = Seen {
-        problem: NOTHING,
+    let mut seen = Seen {
+        given: Given {
+            input: None,
+            block: None,
+            fuel: None,
+            limit: None,
+            room: None,
+            memory: None,
+            first: None,
+            second: None,
+        },
+        expected: None,
         at: 0,
-        expected: UNKNOWN,
         files: 0,
     };
-    let mut i: usize = 0;
-    while i < places.len() {
-        s = see(command, places[i], i + 2, s, given);
-        i += 1;
+    for (i, word) in words.iter().enumerate() {
+        seen = seen.see(command, *word, i + 2)?;
     }
-    end(command, s, given)
+    seen.end(command)
 }

@@ -1,15 +1,14 @@
 // Numbers as people write them: of an option, and of an input text.
-ghost use Rattle.std.specs.Prelude.{◌≡◌, ◌+◌, ◌*◌, ◌-◌, ◌<◌, ◌≤◌, ◌^◌, true, leb, length};
+ghost use Rattle.std.specs.Prelude.{◌≡◌, ◌+◌, ◌*◌, ◌-◌, ◌<◌, ◌^◌, true, leb, IfSome};
 ghost use Rattle.language.specs.Tokens.{is_blank, is_digit, all, decimal};
 ghost use Rattle.console.specs.Numbers.{at_most, number_of, fresh, input, at as at_of, stored, blank_after, dash_after, more_of, digit_after, sign_after, read_byte, read_bytes};
 
 use emulator::memory::put_word;
 use word::arithmetic::neg;
 
-// The number that a word is; one that is larger than it may be; or none.
+// Why a word is not the number that is wanted.
 #[derive(Clone, Copy)]
-pub enum Number {
-    Is(u64),
+pub enum NumberError {
     TooLarge,
     NoNumber,
 }
@@ -19,51 +18,45 @@ const LARGEST_NUMBER: u64 = 2147483647;
 
 const LARGEST_MAGNITUDE: u64 = 2147483648;
 
-// Where the reading of an input text is.
-pub const BETWEEN: u32 = 0;
+// What can be at fault in an input text.
+#[derive(Clone, Copy)]
+pub enum Fault {
+    NoNumber,
+    OutOfRange,
+    TooMany,
+}
 
-pub const DASH: u32 = 1;
-
-pub const POSITIVE: u32 = 2;
-
-pub const NEGATIVE: u32 = 3;
-
-pub const NO_NUMBER: u32 = 4;
-
-pub const OUT_OF_RANGE: u32 = 5;
-
-pub const TOO_MANY: u32 = 6;
+// Where the reading of an input text is: between numbers, after a dash, in the digits of a number without or with one; or at a fault, where it stays.
+#[derive(Clone, Copy)]
+pub enum Phase {
+    Between,
+    Dash,
+    Positive,
+    Negative,
+    Faulty(Fault),
+}
 
 // The reading so far: the magnitude of the number that is being read, and how many are read.
+// The value stands beside the phase and not in it: the clauses of `at`, `blank_after` and `read_bytes`, which the program calls, speak of every reading, with any value
+// in any phase.
 #[derive(Clone, Copy)]
 pub struct Reading {
-    pub phase: u32,
+    pub phase: Phase,
     pub value: u32,
     pub count: usize,
 }
 
+// This and the next two are private in `tokens` too: each is one expression under the definition that both crates cite, and shared it would be no plainer.
 fn is_blank(b: u8) -> bool
     ensures { result ≡ is_blank b }
 {
-    if b == b' ' {
-        return true;
-    }
-    if b == b'\t' {
-        return true;
-    }
-    if b == b'\n' {
-        return true;
-    }
-    b == b'\r'
+    b" \t\n\r".contains(&b)
 }
 
 fn is_digit(b: u8) -> bool
     ensures { result ≡ is_digit b }
 {
-    if b < b'0' {
-        return false;
-    }
-    b <= b'9'
+    b.is_ascii_digit()
 }
 
 // What a digit counts.
@@ -74,15 +67,23 @@ fn digit_value(b: u8) -> u64
     (b - 48) as u64
 }
 
+// What a digit in hex stands for.
+pub fn hex_digit(b: u8) -> Option<u8>
+    ensures { IfSome result (λ d. d < 16) }
+{
+    match b {
+        b'0'..=b'9' => Some(b - b'0'),
+        b'a'..=b'f' => Some(b - b'a' + 10),
+        _ => None,
+    }
+}
+
 // Whether every byte is a digit.
 fn all_digits(word: &[u8]) -> bool
     ensures { result ≡ all is_digit word.now }
 {
-    let mut i: usize = 0;
-    while i < word.len() {
-        if is_digit(word[i]) {
-            i += 1;
-        } else {
+    for b in word {
+        if !is_digit(*b) {
             return false;
         }
     }
@@ -93,42 +94,36 @@ fn all_digits(word: &[u8]) -> bool
 fn has_room(n: u64, d: u64, most: u64) -> bool
     ensures { result ≡ leb (n * 10 + d) most }
 {
-    if most < d {
-        return false;
-    }
-    n <= (most - d) / 10
+    d <= most && n <= (most - d) / 10
 }
 
 // The number that digits mean, if it is at most `most`.
-fn digits_value(word: &[u8], most: u64) -> Number
+fn digits_value(word: &[u8], most: u64) -> Result<u64, NumberError>
     requires { all is_digit word.now ≡ true }
     ensures { result ≡ at_most most (decimal 0 word.now) }
 {
-    let mut n: u64 = 0;
-    let mut i: usize = 0;
-    while i < word.len() {
-        let d = digit_value(word[i]);
-        if has_room(n, d, most) {
-            n = n * 10 + d;
-            i += 1;
-        } else {
-            return Number::TooLarge;
+    let mut n = 0;
+    for b in word {
+        let d = digit_value(*b);
+        if !has_room(n, d, most) {
+            return Err(NumberError::TooLarge);
         }
+        n = n * 10 + d;
     }
-    Number::Is(n)
+    Ok(n)
 }
 
 // The number that a word is, if it is at most `most`.
-pub fn number_of(word: &[u8], most: u64) -> Number
+pub fn number_of(word: &[u8], most: u64) -> Result<u64, NumberError>
     ensures { result ≡ number_of most word.now }
 {
-    if word.len() == 0 {
-        return Number::NoNumber;
+    if word.is_empty() {
+        return Err(NumberError::NoNumber);
     }
-    if all_digits(word) {
-        return digits_value(word, most);
+    if !all_digits(word) {
+        return Err(NumberError::NoNumber);
     }
-    Number::NoNumber
+    digits_value(word, most)
 }
 
 // The start of an input text.
@@ -136,14 +131,14 @@ pub fn start() -> Reading
     ensures { result ≡ fresh }
 {
     Reading {
-        phase: BETWEEN,
+        phase: Phase::Between,
         value: 0,
         count: 0,
     }
 }
 
 // The same reading in another phase.
-pub fn at(phase: u32, value: u32, r: Reading) -> Reading
+pub fn at(phase: Phase, value: u32, r: Reading) -> Reading
     ensures { result ≡ at_of phase value r }
 {
     Reading {
@@ -161,41 +156,38 @@ fn store(w: u32, r: Reading, block: &mut [u8]) -> Reading
     if n < block.len() / 4 {
         put_word(block, n * 4, w);
         return Reading {
-            phase: BETWEEN,
+            phase: Phase::Between,
             value: 0,
             count: n + 1,
         };
     }
-    at(TOO_MANY, 0, r)
+    at(Phase::Faulty(Fault::TooMany), 0, r)
 }
 
 // A blank, or the text's end.
 pub fn blank_after(r: Reading, block: &mut [u8]) -> Reading
     ensures { input result block.new ≡ blank_after (input r block.old) }
 {
-    if r.phase == POSITIVE {
-        return store(r.value, r, block);
+    match r.phase {
+        Phase::Between => r,
+        Phase::Dash => at(Phase::Faulty(Fault::NoNumber), 0, r),
+        Phase::Positive => store(r.value, r, block),
+        Phase::Negative => store(neg(r.value), r, block),
+        Phase::Faulty(_) => r,
     }
-    if r.phase == NEGATIVE {
-        return store(neg(r.value), r, block);
-    }
-    if r.phase == DASH {
-        return at(NO_NUMBER, 0, r);
-    }
-    r
 }
 
 fn dash_after(r: Reading) -> Reading
     ensures { result ≡ dash_after r }
 {
-    if r.phase == BETWEEN {
-        return at(DASH, 0, r);
+    match r.phase {
+        Phase::Between => at(Phase::Dash, 0, r),
+        _ => at(Phase::Faulty(Fault::NoNumber), 0, r),
     }
-    at(NO_NUMBER, 0, r)
 }
 
 // One digit more of a number of this sign, which may be at most `most`.
-fn more(phase: u32, most: u64, d: u64, r: Reading) -> Reading
+fn more(phase: Phase, most: u64, d: u64, r: Reading) -> Reading
     requires { (d < 10) × (most < 2 ^ 32) }
     ensures { result ≡ more_of phase most d r }
 {
@@ -203,20 +195,17 @@ fn more(phase: u32, most: u64, d: u64, r: Reading) -> Reading
     if n <= most {
         return at(phase, n as u32, r);
     }
-    at(OUT_OF_RANGE, 0, r)
+    at(Phase::Faulty(Fault::OutOfRange), 0, r)
 }
 
 fn digit_after(d: u64, r: Reading) -> Reading
     requires { d < 10 }
     ensures { result ≡ digit_after d r }
 {
-    if r.phase == DASH {
-        return more(NEGATIVE, LARGEST_MAGNITUDE, d, r);
+    match r.phase {
+        Phase::Dash | Phase::Negative => more(Phase::Negative, LARGEST_MAGNITUDE, d, r),
+        _ => more(Phase::Positive, LARGEST_NUMBER, d, r),
     }
-    if r.phase == NEGATIVE {
-        return more(NEGATIVE, LARGEST_MAGNITUDE, d, r);
-    }
-    more(POSITIVE, LARGEST_NUMBER, d, r)
 }
 
 // A byte more that is no blank.
@@ -229,14 +218,14 @@ fn sign_after(b: u8, r: Reading) -> Reading
     if is_digit(b) {
         return digit_after(digit_value(b), r);
     }
-    at(NO_NUMBER, 0, r)
+    at(Phase::Faulty(Fault::NoNumber), 0, r)
 }
 
 // A byte more; at a fault the reading stays.
 fn read_byte(b: u8, r: Reading, block: &mut [u8]) -> Reading
     ensures { input result block.new ≡ read_byte b (input r block.old) }
 {
-    if NEGATIVE < r.phase {
+    if let Phase::Faulty(_) = r.phase {
         return r;
     }
     if is_blank(b) {
@@ -250,10 +239,8 @@ pub fn read_bytes(text: &[u8], r: Reading, block: &mut [u8]) -> Reading
     ensures { input result block.new ≡ read_bytes text.now (input r block.old) }
 {
     let mut s = r;
-    let mut i: usize = 0;
-    while i < text.len() {
-        s = read_byte(text[i], s, block);
-        i += 1;
+    for b in text {
+        s = read_byte(*b, s, block);
     }
     s
 }

@@ -33,10 +33,8 @@ pub fn place_after(text: &[u8]) -> Place
     ensures { result ≡ place_after text.now }
 {
     let mut p = Place { line: 1, column: 1 };
-    let mut i: usize = 0;
-    while i < text.len() {
-        p = after(text[i], p);
-        i += 1;
+    for b in text {
+        p = after(*b, p);
     }
     p
 }

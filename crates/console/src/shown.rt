@@ -1,8 +1,11 @@
-// Numbers as people read them.
+// Numbers, and how runs end, as people read them.
 ghost use Rattle.std.specs.Prelude.{◌≡◌, ◌≤◌, ◌<◌, ◌^◌, length};
 ghost use Rattle.console.specs.Shown.{Shows};
 
 use emulator::image::place;
+use interpreter::Outcome;
+use processor::Status;
+use std::fmt;
 use word::order::magnitude;
 
 // The bytes that a number takes at most: a blank, a dash and the digits of a number of 64 bits.
@@ -10,6 +13,7 @@ pub const LONGEST: usize = 22;
 
 const SIGN: u32 = 0x80000000;
 
+// `u64::from` was tried: the proof of `show` did not close without these two facts of it.
 fn wide(n: u32) -> u64
     ensures { (result ≡ n) × (result < 2 ^ 32) }
 {
@@ -38,4 +42,34 @@ pub fn show(w: u32, out: &mut [u8]) -> usize
     out[1] = b'-';
     place(out, 2, &digits[..k]);
     k + 2
+}
+
+// How a run of a text ended.
+#[derive(Clone, Copy)]
+pub struct End(pub Outcome);
+
+impl fmt::Display for End {
+    fn fmt<W: fmt::Write>(&self, f: &mut fmt::Formatter<W>) -> fmt::Result {
+        match self.0 {
+            Outcome::Finished => write!(f, "finished"),
+            Outcome::Trapped(number) => write!(f, "trap {number}"),
+            Outcome::OutOfFuel => write!(f, "out of fuel"),
+        }
+    }
+}
+
+// How a run of an image stopped.
+#[derive(Clone, Copy)]
+pub struct Stop(pub Status);
+
+impl fmt::Display for Stop {
+    fn fmt<W: fmt::Write>(&self, f: &mut fmt::Formatter<W>) -> fmt::Result {
+        match self.0 {
+            Status::Going => write!(f, "going"),
+            Status::Exit => write!(f, "exit"),
+            Status::Trap(number) => write!(f, "trap {number}"),
+            Status::Fault(number) => write!(f, "fault {number}"),
+            Status::Limit => write!(f, "limit"),
+        }
+    }
 }

@@ -1,27 +1,32 @@
 -- One item is declared: the rules of its declaration together, and its entry in the table; then all items, one after the other.
 use mathlib.Core.Path.{◌≡◌, refl, sym, ap, subst, ◌∙◌}
-use mathlib.Core.Bool.{Bool, true, false}
+use mathlib.Core.Bool.{Bool, true, false, not}
 use mathlib.Core.List.{List, [], ◌∷◌}
 use mathlib.Core.Option.{Option}
 use Prim.Native.Nat.{ℕ, zero, suc, ◌+◌, ◌*◌, ◌≤◌, ◌<◌}
 use native.Mathlib.Numerals.{add-one}
 use native.Mathlib.Omega.{arith}
-use lib.Dec.{eqb, ltb, leb}
+use lib.Dec.{ltb, leb}
 use lib.ListN.{length, get_or}
 use lib.Seq.{sets}
-use borrow.Author.Tests.{ne_eqb, leb-true, ltb-true, le-leb, lt-leb, lt-ltb, le-ltb}
+use borrow.Author.Tests.{leb-true, ltb-true, le-leb, lt-leb, lt-ltb, le-ltb}
 use Rattle.word.specs.Choice.{pick, both}
 use Rattle.language.specs.Tree.{Place, Name, Ty, Param, Item, array, function}
 use Rattle.language.specs.Tree as T
 use Rattle.language.specs.Rules.{Ruled, keeps, breaks, ◌>>=◌, ◌>>◌, need, absent, Thing, an_array, a_function, Global, global_of, Declared, nothing_declared, types, declare, declare_all, most_elements, most_arrays, most_elements_in_all, most_functions, most_parameters}
 use Rattle.grammar.specs.Flat as G
-use Rattle.rules.specs.Tables.{word, part, types_from, thing_at, global_at, globals_in}
-use Rattle.rules.specs.Post.{FindsGlobal, global_entry}
+use Rattle.rules.specs.Tables.{word, part, types_from, thing_at, global_from, global_at, globals_in}
 use Rattle.rules.proofs.Stacks.{get_before, get_inside}
 use Rattle.rules.proofs.Stating.{went, stopped}
-use Rattle.declarations.specs.Post.{Standing, next_of, name_at, is_new, array_fits, function_fits, global_from, Adds, declared_in, Few, Declares, DeclaresAll}
+use Rattle.std.specs.Prelude.{Some, None, Result, Ok, Err, ⊤}
+use Rattle.std.specs.Prelude as P
+use Rattle.std.specs.Prelude.{is_some}
+use Rattle.rules.specs.declared.program.Global as H
+use Rattle.rules.specs.declared.program.Program.{Program}
+use Rattle.rules.specs.declared.Broken.{Broken}
+use Rattle.rules.specs.Values.{broken_at, globals_of, global_if, FindsGlobal}
 use Rattle.declarations.specs.declared.Tally.{Tally}
-use Rattle.declarations.specs.declared.Tally.TheVariants as In
+use Rattle.declarations.specs.Post.{Standing, next_of, name_at, is_new, array_fits, function_fits, Adds, declared_in, Few, Declares, DeclaresAll}
 use Rattle.declarations.proofs.Standing as S
 
 -- The table
@@ -44,15 +49,17 @@ added_at text tree ws g h v l =
 pub added : {ws ws' : List ℕ} (g h v : ℕ) → 2 * g + 2 ≤ length ws → ws' ≡ sets ws (2 * g) (h ∷ v ∷ []) → Adds ws g h v ws'
 added {ws} g h v l e = record { is = λ text tree. ap (λ (w : List ℕ). globals_in text tree w (g + 1)) e ∙ added_at text tree ws g h v l }
 
-pub new_name : {text tree ws : List ℕ} {g : ℕ} (p : ℕ) {a n i : ℕ} {b : Bool} → a ≡ word tree (p + 1) → n ≡ word tree (p + 2) → FindsGlobal text tree ws g (part text a n) i → b ≡ eqb i 0 → b ≡ is_new text tree ws g p
-unfolding is_new global_entry
-new_name {text} {tree} {ws} {g} p {a} {n} {i} ea en f q =
-    let same : part text a n ≡ name_at text tree p = rw (ea, en) refl in
-    q ∙ (go i ∙ (ap absent {x = global_entry text tree ws i} {y = global_of (globals_in text tree ws g) (part text a n)} (sym f.is) ∙ ap (λ (y : Name). absent (global_of (globals_in text tree ws g) y)) same))
+pub new_name : (q : Program) (p : ℕ) {a n : ℕ} {o : P.Option H.Global} {b : Bool} → a ≡ word q.tree.now (p + 1) → n ≡ word q.tree.now (p + 2) → FindsGlobal q (part q.text.now a n) o → is_some o ≡ not b → b ≡ is_new q.text.now q.tree.now q.globals.now q.count p
+unfolding is_new
+new_name q p {a} {n} {o} {b} ea en f h =
+    let same : part q.text.now a n ≡ name_at q.text.now q.tree.now p = rw (ea, en) refl in
+    go o b h ∙ (ap absent (sym f.is) ∙ ap (λ (y : Name). absent (global_of (globals_of q) y)) same)
   where
-    go : (j : ℕ) → eqb j 0 ≡ absent (global_entry text tree ws j)
-    go zero = refl
-    go (suc j) = ne_eqb (suc j) 0 (λ (e : suc j ≡ 0). omega (arith, e))
+    go : (o : P.Option H.Global) (b : Bool) → is_some o ≡ not b → b ≡ absent (global_if q o)
+    go None true h = refl
+    go None false h = cc
+    go (Some g) true h = cc
+    go (Some g) false h = refl
 
 -- The rules of a declaration, all reported at the name
 
@@ -175,7 +182,7 @@ module _ (text tree ws : List ℕ) (p a e f : ℕ) (few : Few a e f) {at k n : �
       let y = S.function_at_lem s in
       function_declared b x ps r c before false (rw (← (function_name y), h) refl) ∙ ap breaks (sym (place ∙ y.place))
 
-  pub declare_taken : {b : Bool} {ws' : List ℕ} → b ≡ is_new text tree ws (a + f) p → b ≡ false → Declares text tree p ws a e f (In.Broken at) ws'
+  pub declare_taken : {b : Bool} {ws' : List ℕ} → b ≡ is_new text tree ws (a + f) p → b ≡ false → Declares text tree p ws a e f (Err (broken_at at)) ws'
   declare_taken h q = record { by = taken_item (sym h ∙ q); few = tt }
 
   -- an array
@@ -185,7 +192,7 @@ module _ (text tree ws : List ℕ) (p a e f : ℕ) (few : Few a e f) {at k n : �
       array_declared b x m before false (not_both (absent (global_of (globals_in text tree ws (a + f)) x)) {fits = array_fits a e m} (rw (← y.size, ← size) h)) ∙ ap breaks (sym (place ∙ y.place))
   array_off z h words (function b x ps r c) is s = absurd (let y = S.function_at_lem s in omega (arith, z, kind, y.kind))
 
-  pub declare_array_off : {t : Bool} {ws' : List ℕ} → k ≡ 0 → t ≡ array_fits a e n → t ≡ false → Declares text tree p ws a e f (In.Broken at) ws'
+  pub declare_array_off : {t : Bool} {ws' : List ℕ} → k ≡ 0 → t ≡ array_fits a e n → t ≡ false → Declares text tree p ws a e f (Err (broken_at at)) ws'
   declare_array_off z h q = record { by = array_off z (sym h ∙ q); few = tt }
 
   array_on : {ws' : List ℕ} → is_new text tree ws (a + f) p ≡ true → k ≡ 0 → array_fits a e n ≡ true → Adds ws (a + f) p e ws' → (words : ℕ) (i : Item) (is : List Item) → Standing text tree words p (i ∷ is) →
@@ -197,7 +204,7 @@ module _ (text tree ws : List ℕ) (p a e f : ℕ) (few : Few a e f) {at k n : �
       rw (size ∙ y.size) (same_declared (sym (ap (globals_in text tree ws') {x = a + 1 + f} {y = a + f + 1} (omega arith) ∙ (add.is text tree ∙ rw (y.kind, y.place, y.length_is, y.size, y.stands) refl))) (sym (add-one a)) refl)
   array_on new z h add words (function b x ps r c) is s = absurd (let y = S.function_at_lem s in omega (arith, z, kind, y.kind))
 
-  pub declare_array_on : {t u : Bool} {ws' : List ℕ} → u ≡ is_new text tree ws (a + f) p → u ≡ true → k ≡ 0 → t ≡ array_fits a e n → t ≡ true → Adds ws (a + f) p e ws' → Declares text tree p ws a e f (In.All (a + 1) (e + n) f) ws'
+  pub declare_array_on : {t u : Bool} {ws' : List ℕ} → u ≡ is_new text tree ws (a + f) p → u ≡ true → k ≡ 0 → t ≡ array_fits a e n → t ≡ true → Adds ws (a + f) p e ws' → Declares text tree p ws a e f (Ok (record { arrays = a + 1; elements = e + n; functions = f })) ws'
   declare_array_on v new z h q add = record { by = array_on (sym v ∙ new) z (sym h ∙ q) add; few = array_few n few (sym h ∙ q) }
 
   -- a function
@@ -207,7 +214,7 @@ module _ (text tree ws : List ℕ) (p a e f : ℕ) (few : Few a e f) {at k n : �
       let y = S.function_at_lem s in
       function_declared b x ps r c before false (not_both (absent (global_of (globals_in text tree ws (a + f)) x)) {fits = function_fits f (length ps)} (rw (← y.arity, ← size) h)) ∙ ap breaks (sym (place ∙ y.place))
 
-  pub declare_function_off : {t : Bool} {ws' : List ℕ} → (k ≡ 0 → ⊥) → t ≡ function_fits f n → t ≡ false → Declares text tree p ws a e f (In.Broken at) ws'
+  pub declare_function_off : {t : Bool} {ws' : List ℕ} → (k ≡ 0 → ⊥) → t ≡ function_fits f n → t ≡ false → Declares text tree p ws a e f (Err (broken_at at)) ws'
   declare_function_off z h q = record { by = function_off z (sym h ∙ q); few = tt }
 
   function_on : {ws' : List ℕ} → is_new text tree ws (a + f) p ≡ true → (k ≡ 0 → ⊥) → function_fits f n ≡ true → Adds ws (a + f) p f ws' → (words : ℕ) (i : Item) (is : List Item) → Standing text tree words p (i ∷ is) →
@@ -220,7 +227,7 @@ module _ (text tree ws : List ℕ) (p a e f : ℕ) (few : Few a e f) {at k n : �
       function_declared b x ps r c before true (rw (← (function_name y), new, ← y.arity, ← size) h) ∙
       same_declared (sym (ap (globals_in text tree ws') {x = a + (f + 1)} {y = a + f + 1} (omega arith) ∙ (add.is text tree ∙ rw (y.kind, y.place, y.length_is, y.arity, y.result, y.stands, ts, S.result_number_lem r) refl))) refl (sym (add-one f))
 
-  pub declare_function_on : {t u : Bool} {ws' : List ℕ} → u ≡ is_new text tree ws (a + f) p → u ≡ true → (k ≡ 0 → ⊥) → t ≡ function_fits f n → t ≡ true → Adds ws (a + f) p f ws' → Declares text tree p ws a e f (In.All a e (f + 1)) ws'
+  pub declare_function_on : {t u : Bool} {ws' : List ℕ} → u ≡ is_new text tree ws (a + f) p → u ≡ true → (k ≡ 0 → ⊥) → t ≡ function_fits f n → t ≡ true → Adds ws (a + f) p f ws' → Declares text tree p ws a e f (Ok (record { arrays = a; elements = e; functions = f + 1 })) ws'
   declare_function_on v new z h q add = record { by = function_on (sym v ∙ new) z (sym h ∙ q) add; few = function_few n few (sym h ∙ q) }
 
 -- All items: after those before p, what is left declares the rest
@@ -248,13 +255,13 @@ some_more (array at x n) is s l = omega (arith, s.size, l)
 some_more (function at x ps r b) is s l = omega (arith, s.size, l)
 
 module _ {text tree : List ℕ} {words p : ℕ} {ws : List ℕ} {a e f : ℕ} {m : Ruled Declared} where
-  reach_next : {ws' : List ℕ} {a' e' f' : ℕ} → p < words → Declares text tree p ws a e f (In.All a' e' f') ws' →
+  reach_next : {ws' : List ℕ} {a' e' f' : ℕ} → p < words → Declares text tree p ws a e f (Ok (record { arrays = a'; elements = e'; functions = f' })) ws' →
       (is : List Item) → Standing text tree words p is → m ≡ declare_all is (declared_in text tree ws a e f) → Reached text tree words (next_of tree p) ws' a' e' f' m
   unfolding declare_all
   reach_next l x [] s q = absurd (no_more s l)
   reach_next l x (i ∷ is) s q = record { rest = is; stands = S.standing_next i is s; is = q ∙ went _ (x.by words i is s) refl }
 
-  reach_fault : {ws' : List ℕ} {at : Place} → p < words → Declares text tree p ws a e f (In.Broken at) ws' → (is : List Item) → Standing text tree words p is → m ≡ declare_all is (declared_in text tree ws a e f) → m ≡ breaks at
+  reach_fault : {ws' : List ℕ} {at : Broken} → p < words → Declares text tree p ws a e f (Err at) ws' → (is : List Item) → Standing text tree words p is → m ≡ declare_all is (declared_in text tree ws a e f) → m ≡ breaks at.0
   unfolding declare_all
   reach_fault l x [] s q = absurd (no_more s l)
   reach_fault l x (i ∷ is) s q = q ∙ stopped _ (x.by words i is s)
@@ -265,17 +272,17 @@ reach_end ws a e f l [] s q = q
 reach_end ws a e f l (i ∷ is) s q = absurd (some_more i is s l)
 
 module _ {text tree : List ℕ} {words p : ℕ} {ws : List ℕ} {a e f : ℕ} (d : Declaring text tree words p ws a e f) where
-  next_at : {ws' : List ℕ} {a' e' f' : ℕ} → p < words → Declares text tree p ws a e f (In.All a' e' f') ws' → Declaring text tree words (next_of tree p) ws' a' e' f'
+  next_at : {ws' : List ℕ} {a' e' f' : ℕ} → p < words → Declares text tree p ws a e f (Ok (record { arrays = a'; elements = e'; functions = f' })) ws' → Declaring text tree words (next_of tree p) ws' a' e' f'
   next_at l x = record { by = λ is s. let h = d.by is s in reach_next l x h.rest h.stands h.is; few = x.few }
 
-  fault_at_lem : {ws' : List ℕ} {at : Place} → p < words → Declares text tree p ws a e f (In.Broken at) ws' → DeclaresAll text tree words (In.Broken at) ws'
+  fault_at_lem : {ws' : List ℕ} {at : Broken} → p < words → Declares text tree p ws a e f (Err at) ws' → DeclaresAll text tree words (Err at) ws'
   fault_at_lem l x = record { by = λ is s. let h = d.by is s in reach_fault l x h.rest h.stands h.is; few = tt }
 
-  pub declaring_next : {r : Tally} {ws' : List ℕ} {a' e' f' q : ℕ} → p < words → r ≡ In.All a' e' f' → Declares text tree p ws a e f r ws' → q ≡ next_of tree p → Declaring text tree words q ws' a' e' f'
-  declaring_next {ws' = ws'} l k x z = rw z (next_at l (subst (λ (t : Tally). Declares text tree p ws a e f t ws') k x))
+  pub declaring_next : {r : Result Tally Broken} {ws' : List ℕ} {u : Tally} {q : ℕ} → p < words → r ≡ Ok u → Declares text tree p ws a e f r ws' → q ≡ next_of tree p → Declaring text tree words q ws' u.arrays u.elements u.functions
+  declaring_next {ws' = ws'} l k x z = rw z (next_at l (subst (λ (t : Result Tally Broken). Declares text tree p ws a e f t ws') k x))
 
-  pub declaring_fault : {r : Tally} {ws' : List ℕ} {at : Place} → p < words → r ≡ In.Broken at → Declares text tree p ws a e f r ws' → DeclaresAll text tree words (In.Broken at) ws'
-  declaring_fault {ws' = ws'} l k x = fault_at_lem l (subst (λ (t : Tally). Declares text tree p ws a e f t ws') k x)
+  pub declaring_fault : {r : Result Tally Broken} {ws' : List ℕ} {at : Broken} → p < words → r ≡ Err at → Declares text tree p ws a e f r ws' → DeclaresAll text tree words (Err at) ws'
+  declaring_fault {ws' = ws'} l k x = fault_at_lem l (subst (λ (t : Result Tally Broken). Declares text tree p ws a e f t ws') k x)
 
-  pub declaring_end : words ≤ p → DeclaresAll text tree words (In.All a e f) ws
+  pub declaring_end : words ≤ p → DeclaresAll text tree words (Ok (record { arrays = a; elements = e; functions = f })) ws
   declaring_end l = record { by = λ is s. let h = d.by is s in reach_end ws a e f l h.rest h.stands h.is; few = d.few }

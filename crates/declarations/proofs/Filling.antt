@@ -5,8 +5,10 @@ use Prim.Native.Nat.{ℕ, ◌+◌, ◌*◌, ◌≤◌, ◌<◌}
 use native.Mathlib.Omega.{arith}
 use lib.ListN.{length, length-append}
 use lib.Seq.{sets}
-use borrow.Author.Tests.{ne_eqb}
-use Rattle.language.specs.Tree.{Place, Item, array, function}
+use borrow.Author.Tests.{eq-eqb, eqb-true}
+use mathlib.Core.Bool.{Bool, true, false}
+use lib.Dec.{eqb}
+use Rattle.language.specs.Tree.{Item, array, function}
 use Rattle.language.specs.Core as C
 use Rattle.language.specs.Rules.{Ruled, keeps, breaks, ◌>>=◌, Global, functions_from, most_functions}
 use Rattle.grammar.specs.Flat as G
@@ -14,49 +16,51 @@ use Rattle.grammar.specs.Flat.{tree_room}
 use Rattle.flat.specs.Words.{entries, bodies, entry}
 use Rattle.rules.specs.Tables.{word}
 use Rattle.rules.proofs.Stating.{went, stopped}
-use Rattle.declarations.specs.Post.{Standing, next_of, body_of, entry_of, Makes, function_count, FewParameters, PassCase, Passes, Filled, Fills}
-use Rattle.declarations.specs.declared.Rule.{Rule}
-use Rattle.declarations.specs.declared.Rule.TheVariants as Is
+use Rattle.std.specs.Prelude.{Result, Ok, Err, ⊤}
+use Rattle.rules.specs.declared.Broken.{Broken}
 use Rattle.declarations.specs.declared.Reached.{Reached}
-use Rattle.declarations.specs.declared.Reached.TheVariants as To
+use Rattle.declarations.specs.Post.{Standing, next_of, body_of, entry_of, Makes, function_count, FewParameters, PassCase, Passes, Filled, Fills}
 use Rattle.declarations.proofs.Standing as S
 use Rattle.declarations.proofs.Programs.{row_more, bodies_on}
 use Rattle.declarations.proofs.Declaring.{no_more, some_more}
 
 -- One item
 
-module _ (text tree : List ℕ) (gs : List Global) (p q f : ℕ) (core : List ℕ) {k : ℕ} (ek : k ≡ word tree p) where
-  array_passes : k ≡ 0 → (words : ℕ) (i : Item) (is : List Item) → Standing text tree words p (i ∷ is) → PassCase gs q f core i (To.At q f) core
-  array_passes z words (array at x n) is s = (refl, refl, refl)
-  array_passes z words (function at x ps t b) is s = absurd (let y = S.function_at_lem s in omega (arith, z, ek, y.kind))
+no_array : {n : ℕ} {k : Bool} → k ≡ eqb n 0 → k ≡ false → n ≡ 0 → ⊥
+no_array {n} e f z = let h : true ≡ false = sym (eq-eqb n 0 z) ∙ (sym e ∙ f) in cc
 
-  pub pass_array : k ≡ 0 → Passes text tree gs p q f core (To.At q f) core
+module _ (text tree : List ℕ) (gs : List Global) (p q f : ℕ) (core : List ℕ) {k : Bool} (ek : k ≡ eqb (word tree p) 0) where
+  array_passes : k ≡ true → (words : ℕ) (i : Item) (is : List Item) → Standing text tree words p (i ∷ is) → PassCase gs q f core i (Ok (record { core = q; functions = f })) core
+  array_passes z words (array at x n) is s = (refl, refl, refl)
+  array_passes z words (function at x ps t b) is s = absurd (let y = S.function_at_lem s in let w : word tree p ≡ 0 = eqb-true _ _ (sym ek ∙ z) in omega (arith, w, y.kind))
+
+  pub pass_array : k ≡ true → Passes text tree gs p q f core (Ok (record { core = q; functions = f })) core
   pass_array z = record { by = λ words i is s few. array_passes z words i is s; bounded = (omega (arith, S.further tree p refl), omega arith) }
 
-  module _ (z : k ≡ 0 → ⊥) where
-    function_passes : {j : ℕ} {core' : List ℕ} → j ≡ word tree (p + 6) → Makes text tree gs p q (entry f) core Is.Kept core' → (words : ℕ) (i : Item) (is : List Item) → Standing text tree words p (i ∷ is) → FewParameters (i ∷ is) →
-        PassCase gs q f core i (To.At (q + j) (f + 1)) core'
+  module _ (z : k ≡ false) where
+    function_passes : {j : ℕ} {core' : List ℕ} → j ≡ word tree (p + 6) → Makes text tree gs p q (entry f) core (Ok tt) core' → (words : ℕ) (i : Item) (is : List Item) → Standing text tree words p (i ∷ is) → FewParameters (i ∷ is) →
+        PassCase gs q f core i (Ok (record { core = q + j; functions = f + 1 })) core'
     unfolding FewParameters
-    function_passes ej m words (array at x n) is s few = absurd (z (ek ∙ (S.array_at s).kind))
+    function_passes ej m words (array at x n) is s few = absurd (no_array ek z (S.array_at s).kind)
     function_passes ej m words (function at x ps t b) is s few = (ap (λ (i : ℕ). q + i) (ej ∙ (S.function_at_lem s).body), refl, m.by words at x ps t b is s few.0)
 
     bound : {j : ℕ} → j ≡ word tree (p + 6) → q + j + p ≤ q + next_of tree p
     unfolding next_of
-    bound ej = rw (← ek, ne_eqb k 0 z) (omega (arith, ej))
+    bound ej = rw (← ek, z) (omega (arith, ej))
 
-    pub pass_function : {j : ℕ} {r : Rule} {core' : List ℕ} → j ≡ word tree (p + 6) → r ≡ Is.Kept → Makes text tree gs p q (entry f) core r core' → Passes text tree gs p q f core (To.At (q + j) (f + 1)) core'
+    pub pass_function : {j : ℕ} {r : Result ⊤ Broken} {core' : List ℕ} → j ≡ word tree (p + 6) → r ≡ (Ok tt) → Makes text tree gs p q (entry f) core r core' → Passes text tree gs p q f core (Ok (record { core = q + j; functions = f + 1 })) core'
     pass_function {core' = core'} ej e m = record {
-      by = λ words i is s few. function_passes ej (subst (λ (u : Rule). Makes text tree gs p q (entry f) core u core') e m) words i is s few;
+      by = λ words i is s few. function_passes ej (subst (λ (u : Result ⊤ Broken). Makes text tree gs p q (entry f) core u core') e m) words i is s few;
       bounded = (bound ej, omega arith);
     }
 
-    fault_passes : {d : Place} {core' : List ℕ} → Makes text tree gs p q (entry f) core (Is.Broken d) core' → (words : ℕ) (i : Item) (is : List Item) → Standing text tree words p (i ∷ is) → FewParameters (i ∷ is) → PassCase gs q f core i (To.Broken d) core'
+    fault_passes : {d : Broken} {core' : List ℕ} → Makes text tree gs p q (entry f) core (Err d) core' → (words : ℕ) (i : Item) (is : List Item) → Standing text tree words p (i ∷ is) → FewParameters (i ∷ is) → PassCase gs q f core i (Err d) core'
     unfolding FewParameters
-    fault_passes m words (array at x n) is s few = absurd (z (ek ∙ (S.array_at s).kind))
+    fault_passes m words (array at x n) is s few = absurd (no_array ek z (S.array_at s).kind)
     fault_passes m words (function at x ps t b) is s few = m.by words at x ps t b is s few.0
 
-    pub pass_fault : {d : Place} {r : Rule} {core' : List ℕ} → r ≡ Is.Broken d → Makes text tree gs p q (entry f) core r core' → Passes text tree gs p q f core (To.Broken d) core'
-    pass_fault {core' = core'} e m = record { by = λ words i is s few. fault_passes (subst (λ (u : Rule). Makes text tree gs p q (entry f) core u core') e m) words i is s few; bounded = tt }
+    pub pass_fault : {d : Broken} {r : Result ⊤ Broken} {core' : List ℕ} → r ≡ Err d → Makes text tree gs p q (entry f) core r core' → Passes text tree gs p q f core (Err d) core'
+    pass_fault {core' = core'} e m = record { by = λ words i is s few. fault_passes (subst (λ (u : Result ⊤ Broken). Makes text tree gs p q (entry f) core u core') e m) words i is s few; bounded = tt }
 
 -- All items
 
@@ -105,7 +109,7 @@ module _ (text tree : List ℕ) (words : ℕ) (gs : List Global) (total : ℕ) (
   abbrev Rest : List Item → Type 0
   Rest is = m ≡ functions_from gs is >>= λ fs. keeps (done ++ fs)
 
-  item_next : {j k : ℕ} {core' : List ℕ} (i : Item) (is : List Item) → Standing text tree words p (i ∷ is) → FewParameters (i ∷ is) → Rest (i ∷ is) → total ≡ f + function_count (i ∷ is) → PassCase gs q f core i (To.At j k) core' → Onward j k core'
+  item_next : {j k : ℕ} {core' : List ℕ} (i : Item) (is : List Item) → Standing text tree words p (i ∷ is) → FewParameters (i ∷ is) → Rest (i ∷ is) → total ≡ f + function_count (i ∷ is) → PassCase gs q f core i (Ok (record { core = j; functions = k })) core' → Onward j k core'
   unfolding functions_from FewParameters function_count
   item_next (array at x z) is s few e l c = record {
     rest = is;
@@ -130,16 +134,16 @@ module _ (text tree : List ℕ) (words : ℕ) (gs : List Global) (total : ℕ) (
     there = row_more core₀ done c.2.value total (omega (arith, l, n)) there (made_place core c.2.value q (entry f) place (ap entry n) c.2.there);
   }
 
-  some_next : p < words → {j k : ℕ} {core' : List ℕ} → Passes text tree gs p q f core (To.At j k) core' → (is : List Item) → Standing text tree words p is → FewParameters is → Rest is → total ≡ f + function_count is → Onward j k core'
+  some_next : p < words → {j k : ℕ} {core' : List ℕ} → Passes text tree gs p q f core (Ok (record { core = j; functions = k })) core' → (is : List Item) → Standing text tree words p is → FewParameters is → Rest is → total ≡ f + function_count is → Onward j k core'
   some_next l x [] s few e c = absurd (no_more s l)
   some_next l x (i ∷ is) s few e c = item_next i is s few e c (x.by words i is s few)
 
-  item_fault : {d : Place} (core' : List ℕ) (i : Item) (is : List Item) → Rest (i ∷ is) → PassCase gs q f core i (To.Broken d) core' → m ≡ breaks d
+  item_fault : {d : Broken} (core' : List ℕ) (i : Item) (is : List Item) → Rest (i ∷ is) → PassCase gs q f core i (Err d) core' → m ≡ breaks d.0
   unfolding functions_from
   item_fault core' (array at x z) is e c = absurd c
   item_fault core' (function at x ps t b) is e c = e ∙ stopped _ (stopped _ c)
 
-  some_fault : p < words → {d : Place} {core' : List ℕ} → Passes text tree gs p q f core (To.Broken d) core' → (is : List Item) → Standing text tree words p is → FewParameters is → Rest is → m ≡ breaks d
+  some_fault : p < words → {d : Broken} {core' : List ℕ} → Passes text tree gs p q f core (Err d) core' → (is : List Item) → Standing text tree words p is → FewParameters is → Rest is → m ≡ breaks d.0
   some_fault l {core' = core'} x [] s few e = absurd (no_more s l)
   some_fault l {core' = core'} x (i ∷ is) s few e = item_fault core' i is e (x.by words i is s few)
 
@@ -159,21 +163,21 @@ module _ (text tree : List ℕ) (words : ℕ) (gs : List Global) (total : ℕ) (
   abbrev now : (is : List Item) → Standing text tree words 0 is → FewParameters is → total ≡ function_count is → Progress text tree words gs total core₀ p q f core (functions_from gs is)
   now is s few n = x.by is s few n
 
-  next_at : {j k : ℕ} {core' : List ℕ} → p < words → Passes text tree gs p q f core (To.At j k) core' → Filling text tree words gs total core₀ (next_of tree p) j k core'
+  next_at : {j k : ℕ} {core' : List ℕ} → p < words → Passes text tree gs p q f core (Ok (record { core = j; functions = k })) core' → Filling text tree words gs total core₀ (next_of tree p) j k core'
   next_at l y = record {
     by = λ is s few n. let h = now is s few n in some_next text tree words gs total core₀ p q f core (functions_from gs is) h.done h.count h.place h.there l y h.rest h.stands h.few h.is h.left;
     place = omega (arith, x.place, y.bounded.0);
     entry_at = omega (arith, x.entry_at, y.bounded.1, S.eight_further tree p);
   }
 
-  pub filling_next : {j k i : ℕ} {r : Reached} {core' : List ℕ} → p < words → r ≡ To.At j k → Passes text tree gs p q f core r core' → i ≡ next_of tree p → Filling text tree words gs total core₀ i j k core'
-  filling_next {core' = core'} l e y z = rw z (next_at l (subst (λ (u : Reached). Passes text tree gs p q f core u core') e y))
+  pub filling_next : {w : Reached} {i : ℕ} {r : Result Reached Broken} {core' : List ℕ} → p < words → r ≡ Ok w → Passes text tree gs p q f core r core' → i ≡ next_of tree p → Filling text tree words gs total core₀ i w.core w.functions core'
+  filling_next {core' = core'} l e y z = rw z (next_at l (subst (λ (u : Result Reached Broken). Passes text tree gs p q f core u core') e y))
 
-  fault_at_lem : {d : Place} {core' : List ℕ} → p < words → Passes text tree gs p q f core (To.Broken d) core' → Fills text tree words gs total core₀ (To.Broken d) core'
+  fault_at_lem : {d : Broken} {core' : List ℕ} → p < words → Passes text tree gs p q f core (Err d) core' → Fills text tree words gs total core₀ (Err d) core'
   fault_at_lem l y = record { by = λ is s few n. let h = now is s few n in some_fault text tree words gs total core₀ p q f core (functions_from gs is) h.done h.count h.place h.there l y h.rest h.stands h.few h.is }
 
-  pub filling_fault : {d : Place} {r : Reached} {core' : List ℕ} → p < words → r ≡ To.Broken d → Passes text tree gs p q f core r core' → Fills text tree words gs total core₀ (To.Broken d) core'
-  filling_fault {core' = core'} l e y = fault_at_lem l (subst (λ (u : Reached). Passes text tree gs p q f core u core') e y)
+  pub filling_fault : {d : Broken} {r : Result Reached Broken} {core' : List ℕ} → p < words → r ≡ Err d → Passes text tree gs p q f core r core' → Fills text tree words gs total core₀ (Err d) core'
+  filling_fault {core' = core'} l e y = fault_at_lem l (subst (λ (u : Result Reached Broken). Passes text tree gs p q f core u core') e y)
 
-  pub filling_end : words ≤ p → words ≤ tree_room → total ≤ most_functions → Fills text tree words gs total core₀ (To.At q f) core
+  pub filling_end : words ≤ p → words ≤ tree_room → total ≤ most_functions → Fills text tree words gs total core₀ (Ok (record { core = q; functions = f })) core
   filling_end l u v = record { by = λ is s few n. let h = now is s few n in none_left text tree words gs total core₀ p q f core (functions_from gs is) h.done h.count h.place h.there l u v x.place h.rest h.stands h.is h.left }

@@ -9,7 +9,6 @@ use native.Mathlib.Omega.{arith}
 use lib.ListN.{length, get_or, drop, length-append}
 use lib.Seq.{get_or-drop, drop-drop, drop_at}
 use lib.Dec.{eqb}
-use borrow.Author.Tests.{ne_eqb}
 use Rattle.word.specs.Choice.{pick}
 use Rattle.language.specs.Tree.{Place, Name, Ty, Param, Item, array, function}
 use Rattle.language.specs.Tree as T
@@ -138,13 +137,13 @@ unfolding next_of
 standing_next (array at x n) is s = let a = array_at s in rw a.kind a.rest
 standing_next (function at x ps r b) is s = let f = function_at_lem s in rw (f.kind, f.arity, f.body) f.rest
 
-pub after_array : (tree : List ℕ) (p : ℕ) {k : ℕ} → k ≡ word tree p → k ≡ 0 → p + 8 ≡ next_of tree p
+pub after_array : (tree : List ℕ) (p : ℕ) {k : Bool} → k ≡ eqb (word tree p) 0 → k ≡ true → p + 8 ≡ next_of tree p
 unfolding next_of
 after_array tree p e h = rw (← e, h) refl
 
-pub after_function : (tree : List ℕ) (p : ℕ) {k n b : ℕ} → k ≡ word tree p → (k ≡ 0 → ⊥) → n ≡ word tree (p + 3) → b ≡ word tree (p + 6) → p + 8 + 3 * n + b ≡ next_of tree p
+pub after_function : (tree : List ℕ) (p : ℕ) {k : Bool} {n b : ℕ} → k ≡ eqb (word tree p) 0 → k ≡ false → n ≡ word tree (p + 3) → b ≡ word tree (p + 6) → p + 8 + 3 * n + b ≡ next_of tree p
 unfolding next_of
-after_function tree p {k} e h en eb = rw (← e, ne_eqb k 0 h, en, eb) refl
+after_function tree p e h en eb = rw (← e, h, en, eb) refl
 
 pub eight_further : (tree : List ℕ) (p : ℕ) → p + 8 ≤ next_of tree p
 unfolding next_of

@@ -3,7 +3,7 @@ use mathlib.Core.Path.{◌≡◌, refl, sym, ap, ◌∙◌}
 use mathlib.Core.Bool.{Bool, true, false}
 use mathlib.Core.List.{List, [], ◌∷◌}
 use mathlib.Core.Option.{none, some}
-use Prim.Native.Nat.{ℕ, zero, suc, ◌+◌, ◌-◌, ◌*◌}
+use Prim.Native.Nat.{ℕ, zero, suc, ◌+◌}
 use native.Mathlib.Omega.{arith}
 use lib.Dec.{eqb}
 use lib.ListN.{length, get_or}
@@ -11,12 +11,13 @@ use borrow.Author.Tests.{eq-eqb, ne_eqb}
 use Rattle.word.specs.Choice.{pick, both}
 use Rattle.language.specs.Tree.{Place, Name, Ty}
 use Rattle.language.specs.Tokens.{bytes, same}
-use Rattle.language.specs.Rules.{keeps, ◌>>=◌, ◌>>◌, need, found, absent, is_function, Global, global_of, function_of, main_name, main_of}
-use Rattle.rules.specs.Tables.{word, part, type_of, result_of, types_from, thing_at, global_at, globals_in}
-use Rattle.rules.specs.Post.{FindsGlobal, global_entry}
-use Rattle.rules.proofs.Making.{entry_global}
+use Rattle.language.specs.Rules.{keeps, ◌>>=◌, ◌>>◌, need, found, absent, is_function, Global, function_of, main_name, main_of}
+use Rattle.rules.specs.Tables.{word, part, type_of, result_of, types_from, thing_at}
+use Rattle.std.specs.Prelude.{Some, None, Ok, Err}
+use Rattle.rules.specs.declared.program.Global as H
+use Rattle.rules.specs.declared.program.Program.{Program}
+use Rattle.rules.specs.Values.{broken_at, globals_of, FindsGlobal}
 use Rattle.declarations.specs.Post.{Begins}
-use Rattle.declarations.specs.declared.Start.TheVariants as At
 
 -- The name
 
@@ -78,47 +79,40 @@ no_type n = go (type_of n) (eqb n 0)
     go t true = refl
     go t false = refl
 
-module _ {text tree ws : List ℕ} {g i : ℕ} (f : FindsGlobal text tree ws g main_name i) where
+module _ (p : Program) where
   abbrev gs : List Global
-  gs = globals_in text tree ws g
+  gs = globals_of p
 
-  pub no_main : (end : Place) → i ≡ 0 → Begins gs end (At.Broken end)
-  unfolding main_of found global_entry ◌>>=◌
-  no_main end e = record { by = rw (f.is, e) refl }
+  pub no_main : (end : Place) → FindsGlobal p main_name None → Begins gs end (Err (broken_at end))
+  unfolding main_of found ◌>>=◌
+  no_main end f = record { by = rw f.is refl }
 
-  module _ (end : Place) {h : ℕ} (some_main : i ≡ 0 → ⊥) (eh : h ≡ word ws (2 * (i - 1))) where
-    the_global : global_of gs main_name ≡ some (global_at text tree ws (i - 1))
-    the_global = f.is ∙ entry_global text tree ws i some_main
-
+  module _ (end : Place) (v : H.Global) (f : FindsGlobal p main_name (Some v)) where
     abbrev place : Place
-    place = word tree (h + 1)
+    place = word p.tree.now (v.header + 1)
 
-    at_place : (global_at text tree ws (i - 1)).place ≡ place
-    unfolding global_at
-    at_place = rw eh refl
+    begun : main_of gs end ≡ (found (is_function (thing_at p.tree.now v.header v.value)) place >>= λ s. need (eqb (length s.parameters) 0) place >> (need (absent s.result) place >> keeps s.number))
+    unfolding main_of found function_of ◌>>=◌
+    begun = rw f.is refl
 
-    begun : main_of gs end ≡ (found (is_function (thing_at tree h (word ws (2 * (i - 1) + 1)))) place >>= λ s. need (eqb (length s.parameters) 0) place >> (need (absent s.result) place >> keeps s.number))
-    unfolding main_of found function_of global_at ◌>>=◌
-    begun = rw (the_global, eh) refl
-
-    pub main_array : {k at : ℕ} → k ≡ word tree h → k ≡ 0 → at ≡ word tree (h + 1) → Begins gs end (At.Broken at)
+    pub main_array : {k : Bool} {at : ℕ} → k ≡ eqb (word p.tree.now v.header) 0 → k ≡ true → at ≡ word p.tree.now (v.header + 1) → Begins gs end (Err (broken_at at))
     unfolding thing_at found ◌>>=◌
-    main_array ek e p = record { by = begun ∙ rw (p, ← ek, e) refl }
+    main_array ek e q = record { by = begun ∙ rw (q, ← ek, e) refl }
 
-    module _ {k n : ℕ} (ek : k ≡ word tree h) (fk : k ≡ 0 → ⊥) (en : n ≡ word tree (h + 3)) where
-      function_begun : main_of gs end ≡ need (eqb n 0) place >> (need (eqb (word tree (h + 4)) 0) place >> keeps (word ws (2 * (i - 1) + 1)))
+    module _ {k : Bool} {n : ℕ} (ek : k ≡ eqb (word p.tree.now v.header) 0) (fk : k ≡ false) (en : n ≡ word p.tree.now (v.header + 3)) where
+      function_begun : main_of gs end ≡ need (eqb n 0) place >> (need (eqb (word p.tree.now (v.header + 4)) 0) place >> keeps v.value)
       unfolding thing_at found ◌>>=◌
-      function_begun = begun ∙ rw (← ek, ne_eqb k 0 fk, types_count tree 3 (h + 10) (word tree (h + 3)), ← en, no_type (word tree (h + 4))) refl
+      function_begun = begun ∙ rw (← ek, fk, types_count p.tree.now 3 (v.header + 10) (word p.tree.now (v.header + 3)), ← en, no_type (word p.tree.now (v.header + 4))) refl
 
-      pub main_takes : {at : ℕ} → (n ≡ 0 → ⊥) → at ≡ word tree (h + 1) → Begins gs end (At.Broken at)
+      pub main_takes : {at : ℕ} → (n ≡ 0 → ⊥) → at ≡ word p.tree.now (v.header + 1) → Begins gs end (Err (broken_at at))
       unfolding need ◌>>=◌
-      main_takes fn p = record { by = function_begun ∙ rw (p, ne_eqb n 0 fn) refl }
+      main_takes fn q = record { by = function_begun ∙ rw (q, ne_eqb n 0 fn) refl }
 
-      module _ {r : ℕ} (fn : n ≡ 0) (er : r ≡ word tree (h + 4)) where
-        pub main_gives : {at : ℕ} → (r ≡ 0 → ⊥) → at ≡ word tree (h + 1) → Begins gs end (At.Broken at)
+      module _ {r : ℕ} (fn : n ≡ 0) (er : r ≡ word p.tree.now (v.header + 4)) where
+        pub main_gives : {at : ℕ} → (r ≡ 0 → ⊥) → at ≡ word p.tree.now (v.header + 1) → Begins gs end (Err (broken_at at))
         unfolding need ◌>>=◌
-        main_gives fr p = record { by = function_begun ∙ rw (p, ← er, eq-eqb n 0 fn, ne_eqb r 0 fr) refl }
+        main_gives fr q = record { by = function_begun ∙ rw (q, ← er, eq-eqb n 0 fn, ne_eqb r 0 fr) refl }
 
-        pub main_found : {m : ℕ} → r ≡ 0 → m ≡ word ws (2 * (i - 1) + 1) → Begins gs end (At.Function m)
+        pub main_found : r ≡ 0 → Begins gs end (Ok v.value)
         unfolding need ◌>>=◌
-        main_found fr em = record { by = function_begun ∙ rw (← er, ← em, eq-eqb n 0 fn, eq-eqb r 0 fr) refl }
+        main_found fr = record { by = function_begun ∙ rw (← er, eq-eqb n 0 fn, eq-eqb r 0 fr) refl }

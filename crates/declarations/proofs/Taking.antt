@@ -11,10 +11,12 @@ use Rattle.language.specs.Rules.{Ruled, keeps, breaks, need, Global, Scope, fres
 use Rattle.grammar.specs.Flat as G
 use Rattle.rules.specs.Tables.{word, part, type_of, locals_in}
 use Rattle.rules.specs.Named.{NamedParams}
-use Rattle.rules.specs.Post.{scope_of, Enters, Freshly}
+use Rattle.rules.specs.Post.{scope_of, Freshly}
+use Rattle.grammar.specs.declared.tree.ValueType.{ValueType}
 use Rattle.rules.proofs.Stating.{went, stopped}
+use Rattle.std.specs.Prelude.{Ok, Err}
+use Rattle.rules.specs.Values.{broken_at, meant, Enters}
 use Rattle.declarations.specs.Post.{no_locals, Takes}
-use Rattle.declarations.specs.declared.Rule.TheVariants as Is
 use Rattle.declarations.proofs.Standing as S
 
 pub record Left (text tree : List ℕ) (gs : List Global) (p n k : ℕ) (locals : List ℕ) (m : Ruled (Scope gs)) (more : List ℕ) : Type 0 where
@@ -35,12 +37,12 @@ taking_start text tree gs p n locals = record {
   below = omega arith;
 }
 
-module _ (text tree : List ℕ) (gs : List Global) (p n k : ℕ) (locals : List ℕ) {at size ty : ℕ} {b : Bool}
-    (ea : at ≡ word tree (p + 3 * k)) (es : size ≡ word tree (p + 3 * k + 1)) (et : ty ≡ word tree (p + 3 * k + 2)) (fr : Freshly text gs locals k at size b) where
+module _ (text tree : List ℕ) (gs : List Global) (p n k : ℕ) (locals : List ℕ) {at size : ℕ} (ty : ValueType) {b : Bool}
+    (ea : at ≡ word tree (p + 3 * k)) (es : size ≡ word tree (p + 3 * k + 1)) (et : meant ty ≡ type_of (word tree (p + 3 * k + 2))) (fr : Freshly text gs locals k at size b) where
   record Parameter (x : Param) (xs : List Param) (more : List ℕ) : Type 0 where
     place : at ≡ x.place
     name : part text at size ≡ x.name
-    type : type_of ty ≡ x.type
+    type : meant ty ≡ x.type
     rest : drop (p + 3 * (k + 1)) tree ≡ G.params_words xs more
     named : NamedParams text xs
     new : fresh gs (locals_in text locals k) x.place x.name ≡ need b at
@@ -53,7 +55,7 @@ module _ (text tree : List ℕ) (gs : List Global) (p n k : ℕ) (locals : List 
       record {
         place = place;
         name = name;
-        type = ap type_of (et ∙ S.word_in tree (p + 3 * k) 2 e) ∙ S.type_number_lem x.type;
+        type = et ∙ (ap type_of (S.word_in tree (p + 3 * k) 2 e) ∙ S.type_number_lem x.type);
         rest = ap (λ (i : ℕ). drop i tree) {x = p + 3 * (k + 1)} {y = p + 3 * k + 3} (omega arith) ∙ S.drop_in tree (p + 3 * k) 3 e;
         named = h.1;
         new = rw (← place, ← name) fr.is;
@@ -64,7 +66,7 @@ module _ (text tree : List ℕ) (gs : List Global) (p n k : ℕ) (locals : List 
   known_parameter f l more [] e c h q = absurd (omega (arith, l, c))
   known_parameter f l more (x ∷ xs) e c h q = let y = parameter_at x xs more e h in q ∙ stopped _ (y.new ∙ ap (λ (t : Bool). need t at) f)
 
-  new_parameter : {locals' : List ℕ} → b ≡ true → k < n → Enters locals k at size ty k locals' → {m : Ruled (Scope gs)} {more : List ℕ} (xs : List Param) → drop (p + 3 * k) tree ≡ G.params_words xs more → n ≡ k + length xs → NamedParams text xs →
+  new_parameter : {locals' : List ℕ} → b ≡ true → k < n → Enters locals k (record { name = record { place = at; length = size }; ty = ty; slot = k }) locals' → {m : Ruled (Scope gs)} {more : List ℕ} (xs : List Param) → drop (p + 3 * k) tree ≡ G.params_words xs more → n ≡ k + length xs → NamedParams text xs →
       m ≡ parameters gs xs (scope_of gs text locals k k) → Left text tree gs p n (k + 1) locals' m more
   unfolding parameters need
   new_parameter f l en [] e c h q = absurd (omega (arith, l, c))
@@ -78,10 +80,10 @@ module _ (text tree : List ℕ) (gs : List Global) (p n k : ℕ) (locals : List 
         is = q ∙ went _ (y.new ∙ ap (λ (t : Bool). need t at) f) (rw (en.is text, y.name, y.type, add-one k) refl);
       }
 
-  pub taking_known : {locals' : List ℕ} → Taking text tree gs p n k locals → k < n → b ≡ false → Takes text gs n (drop p tree) (Is.Broken at) locals'
+  pub taking_known : {locals' : List ℕ} → Taking text tree gs p n k locals → k < n → b ≡ false → Takes text gs n (drop p tree) (Err (broken_at at)) locals'
   taking_known t l f = record { by = λ ps more e c h. let d = t.by ps more e c h in known_parameter f l more d.rest d.stands d.count d.named d.is }
 
-  pub taking_next : {locals' : List ℕ} → Taking text tree gs p n k locals → k < n → b ≡ true → Enters locals k at size ty k locals' → Taking text tree gs p n (k + 1) locals'
+  pub taking_next : {locals' : List ℕ} → Taking text tree gs p n k locals → k < n → b ≡ true → Enters locals k (record { name = record { place = at; length = size }; ty = ty; slot = k }) locals' → Taking text tree gs p n (k + 1) locals'
   taking_next t l f en = record { by = λ ps more e c h. let d = t.by ps more e c h in new_parameter f l en d.rest d.stands d.count d.named d.is; below = omega (arith, l) }
 
 all_taken : (text : List ℕ) (gs : List Global) (n k : ℕ) (locals : List ℕ) {m : Ruled (Scope gs)} → n ≤ k → (xs : List Param) → n ≡ k + length xs → m ≡ parameters gs xs (scope_of gs text locals k k) → m ≡ keeps (scope_of gs text locals n n)
@@ -89,5 +91,5 @@ unfolding parameters
 all_taken text gs n k locals l [] c q = q ∙ ap (λ (i : ℕ). keeps (scope_of gs text locals i i)) {x = k} {y = n} (omega (arith, c))
 all_taken text gs n k locals l (x ∷ xs) c q = absurd (omega (arith, l, c))
 
-pub taking_end : {text tree : List ℕ} {gs : List Global} {p n k : ℕ} {locals : List ℕ} → Taking text tree gs p n k locals → n ≤ k → Takes text gs n (drop p tree) Is.Kept locals
+pub taking_end : {text tree : List ℕ} {gs : List Global} {p n k : ℕ} {locals : List ℕ} → Taking text tree gs p n k locals → n ≤ k → Takes text gs n (drop p tree) (Ok tt) locals
 taking_end {text} {gs = gs} {n = n} {k = k} {locals = locals} t l = record { by = λ ps more e c h. let d = t.by ps more e c h in all_taken text gs n k locals l d.rest d.count d.is }

@@ -17,15 +17,11 @@ use Rattle.grammar.proofs.FlatLaws.{items_linear}
 use Rattle.rules.specs.Tables.{globals_in}
 use Rattle.rules.proofs.Kept.{All, kept, then}
 use Rattle.rules.proofs.Stating.{went, stopped}
-use Rattle.declarations.specs.Post.{Standing, declared_in, DeclareCase, DeclaresAll, function_count, FewParameters, MainCase, Begins, FillCase, Filled, Fills, built, Kept, ElaborateCase, Builds, Elaborates}
+use Rattle.std.specs.Prelude.{Result, Ok, Err}
+use Rattle.rules.specs.declared.Broken.{Broken}
 use Rattle.declarations.specs.declared.Tally.{Tally}
-use Rattle.declarations.specs.declared.Tally.TheVariants as In
-use Rattle.declarations.specs.declared.Start.{Start}
-use Rattle.declarations.specs.declared.Start.TheVariants as At
 use Rattle.declarations.specs.declared.Reached.{Reached}
-use Rattle.declarations.specs.declared.Reached.TheVariants as To
-use Rattle.declarations.specs.declared.Elaborated.{Elaborated}
-use Rattle.declarations.specs.declared.Elaborated.TheVariants as Whole
+use Rattle.declarations.specs.Post.{Standing, declared_in, DeclareCase, DeclaresAll, function_count, FewParameters, MainCase, Begins, FillCase, Filled, Fills, built, Kept, ElaborateCase, Builds, Elaborates}
 use Rattle.declarations.proofs.Names.{all_named}
 use Rattle.declarations.proofs.Few.{tree_few}
 use Rattle.declarations.proofs.Programs.{program_there, program_length}
@@ -66,18 +62,18 @@ all (i ∷ is) d = then (one i d) λ c o. record { holds = λ e q. let t = (all 
 
 -- The program
 
-module _ (text tree : List ℕ) (words : ℕ) (gs : List Global) (total elements : ℕ) (core : List ℕ) {s : Start} (b : Begins gs (length text) s) where
-  main_is : {u : Start} → s ≡ u → MainCase (main_of gs (length text)) u
+module _ (text tree : List ℕ) (words : ℕ) (gs : List Global) (total elements : ℕ) (core : List ℕ) {s : Result ℕ Broken} (b : Begins gs (length text) s) where
+  main_is : {u : Result ℕ Broken} → s ≡ u → MainCase (main_of gs (length text)) u
   main_is e = subst (MainCase (main_of gs (length text))) e b.by
 
-  pub build_no_main : {d : ℕ} {core' : List ℕ} → s ≡ At.Broken d → Builds text tree words gs total elements core (Whole.Broken d) core'
+  pub build_no_main : {d : Broken} {core' : List ℕ} → s ≡ Err d → Builds text tree words gs total elements core (Err d) core'
   unfolding built
   build_no_main e = record { by = λ is z few n. stopped _ (main_is e) }
 
-  module _ {m : ℕ} (e : s ≡ At.Function m) {core₁ : List ℕ} {r : Reached} {core₂ : List ℕ} (h : core₁ ≡ sets core 0 (total ∷ m ∷ elements ∷ [])) (f : Fills text tree words gs total core₁ r core₂) where
-    pub build_fault : {d : ℕ} → r ≡ To.Broken d → Builds text tree words gs total elements core (Whole.Broken d) core₂
+  module _ {m : ℕ} (e : s ≡ Ok m) {core₁ : List ℕ} {r : Result Reached Broken} {core₂ : List ℕ} (h : core₁ ≡ sets core 0 (total ∷ m ∷ elements ∷ [])) (f : Fills text tree words gs total core₁ r core₂) where
+    pub build_fault : {d : Broken} → r ≡ Err d → Builds text tree words gs total elements core (Err d) core₂
     unfolding built
-    build_fault {d} k = record { by = λ is z few n. went _ (main_is e) (stopped _ (subst (λ (u : Reached). FillCase (functions_from gs is) total core₁ u core₂) k (f.by is z few n))) }
+    build_fault {d} k = record { by = λ is z few n. went _ (main_is e) (stopped _ (subst (λ (u : Result Reached Broken). FillCase (functions_from gs is) total core₁ u core₂) k (f.by is z few n))) }
 
     program_kept : {q : ℕ} (is : List Item) → Filled (functions_from gs is) total q core₁ core₂ → Kept (built gs is (length text) elements) q core core₂
     unfolding built
@@ -89,8 +85,8 @@ module _ (text tree : List ℕ) (words : ℕ) (gs : List Global) (total elements
       short = w.short;
     }
 
-    pub build_kept : {q j : ℕ} → r ≡ To.At q j → Builds text tree words gs total elements core (Whole.Kept q) core₂
-    build_kept k = record { by = λ is z few n. program_kept is (subst (λ (u : Reached). FillCase (functions_from gs is) total core₁ u core₂) k (f.by is z few n)) }
+    pub build_kept : {w : Reached} → r ≡ Ok w → Builds text tree words gs total elements core (Ok w.core) core₂
+    build_kept k = record { by = λ is z few n. program_kept is (subst (λ (u : Result Reached Broken). FillCase (functions_from gs is) total core₁ u core₂) k (f.by is z few n)) }
 
 -- The tree of a text
 
@@ -112,20 +108,20 @@ elaborate_is : (items : List Item) (end : Place) → elaborate items end ≡ dec
 unfolding elaborate built
 elaborate_is items end = refl
 
-module _ (text tree : List ℕ) (words : ℕ) (core : List ℕ) {r : Tally} {globals : List ℕ} (l : length tree ≡ G.tree_room) (d : DeclaresAll text tree words r globals) where
-  declared_is : {u : Tally} → r ≡ u → (items : List Item) → Standing text tree words 0 items → DeclareCase text tree (declare_all items nothing_declared) u globals
-  declared_is e items s = subst (λ (v : Tally). DeclareCase text tree (declare_all items nothing_declared) v globals) e (d.by items s)
+module _ (text tree : List ℕ) (words : ℕ) (core : List ℕ) {r : Result Tally Broken} {globals : List ℕ} (l : length tree ≡ G.tree_room) (d : DeclaresAll text tree words r globals) where
+  declared_is : {u : Result Tally Broken} → r ≡ u → (items : List Item) → Standing text tree words 0 items → DeclareCase text tree (declare_all items nothing_declared) u globals
+  declared_is e items s = subst (λ (v : Result Tally Broken). DeclareCase text tree (declare_all items nothing_declared) v globals) e (d.by items s)
 
-  pub whole_fault : {at : ℕ} {core' : List ℕ} → r ≡ In.Broken at → Elaborates text tree words core (Whole.Broken at) core'
+  pub whole_fault : {at : Broken} {core' : List ℕ} → r ≡ Err at → Elaborates text tree words core (Err at) core'
   whole_fault e = record { by = λ items before p t n. elaborate_is items (length text) ∙ stopped _ (declared_is e items (standing text tree words items before l p t n)) }
 
-  whole_on : {a e f : ℕ} {u : Elaborated} {core' : List ℕ} → r ≡ In.All a e f → Builds text tree words (globals_in text tree globals (a + f)) f e core u core' → (items : List Item) → Standing text tree words 0 items → ElaborateCase (elaborate items (length text)) core u core'
-  whole_on {a} {e} {f} {u} {core'} k b items s =
-      let q : declare_all items nothing_declared ≡ keeps (declared_in text tree globals a e f) = declared_is k items s in
-      let t : Tallied items nothing_declared (declared_in text tree globals a e f) = (all items nothing_declared).holds _ q in
+  whole_on : {w : Tally} {u : Result ℕ Broken} {core' : List ℕ} → r ≡ Ok w → Builds text tree words (globals_in text tree globals (w.arrays + w.functions)) w.functions w.elements core u core' → (items : List Item) → Standing text tree words 0 items → ElaborateCase (elaborate items (length text)) core u core'
+  whole_on {w} {u} {core'} k b items s =
+      let q : declare_all items nothing_declared ≡ keeps (declared_in text tree globals w.arrays w.elements w.functions) = declared_is k items s in
+      let t : Tallied items nothing_declared (declared_in text tree globals w.arrays w.elements w.functions) = (all items nothing_declared).holds _ q in
       subst (λ (m : Ruled C.Program). ElaborateCase m core u core') (sym (elaborate_is items (length text) ∙ went _ q refl)) (b.by items s t.few (omega (arith, t.count)))
 
-  pub whole : {a e f : ℕ} {u : Elaborated} {core' : List ℕ} → r ≡ In.All a e f → Builds text tree words (globals_in text tree globals (a + f)) f e core u core' → Elaborates text tree words core u core'
+  pub whole : {w : Tally} {u : Result ℕ Broken} {core' : List ℕ} → r ≡ Ok w → Builds text tree words (globals_in text tree globals (w.arrays + w.functions)) w.functions w.elements core u core' → Elaborates text tree words core u core'
   whole k b = record { by = λ items before p t n. whole_on k b items (standing text tree words items before l p t n) }
 
 -- For who calls `parse` first
@@ -133,5 +129,5 @@ module _ (text tree : List ℕ) (words : ℕ) (core : List ℕ) {r : Tally} {glo
 pub tree_fits : {text before : List ℕ} {c e : ℕ} {tree : List ℕ} → Good text before c e tree → e ≤ G.tree_room
 tree_fits g = rw g.size (tree_few g.parses)
 
-pub of_parsed : {text before : List ℕ} {c e : ℕ} {tree core : List ℕ} {r : Elaborated} {core' : List ℕ} (g : Good text before c e tree) → Elaborates text tree e core r core' → ElaborateCase (elaborate g.items (length text)) core r core'
+pub of_parsed : {text before : List ℕ} {c e : ℕ} {tree core : List ℕ} {r : Result ℕ Broken} {core' : List ℕ} (g : Good text before c e tree) → Elaborates text tree e core r core' → ElaborateCase (elaborate g.items (length text)) core r core'
 of_parsed {before = before} g x = x.by g.items before g.parses g.words g.size

@@ -1,5 +1,5 @@
 -- What the functions promise: each is the definition of document 01 §4 of the items that the tree's words stand for.
-use Rattle.std.specs.Prelude.{◌≡◌, Bool, List, [], ◌∷◌, ℕ, suc, ◌+◌, ◌-◌, ◌*◌, ◌≤◌, ◌<◌, eqb, ltb, leb, length, drop}
+use Rattle.std.specs.Prelude.{◌≡◌, Bool, List, [], ◌∷◌, ℕ, suc, ◌+◌, ◌-◌, ◌*◌, ◌≤◌, ◌<◌, eqb, ltb, leb, length, drop, Result, Ok, Err, ⊤}
 use Rattle.std.proofs.Math.Option.{Option}
 use Rattle.std.proofs.lemmas.List.Edits.{sets}
 use Rattle.word.specs.Choice.{pick, both}
@@ -12,19 +12,12 @@ use Rattle.grammar.specs.Flat as G
 use Rattle.grammar.specs.Flat.{tree_room}
 use Rattle.flat.specs.Statements.{flats}
 use Rattle.flat.specs.Words.{count, block_length, block_words, entries, bodies, entry, words_of}
-use Rattle.rules.specs.Tables.{word, part, result_of, thing_at, globals_in}
+use Rattle.rules.specs.Tables.{word, part, global_from, globals_in}
 use Rattle.rules.specs.Named.{NamedParams, NamedItems}
 use Rattle.rules.specs.Post.{scope_of}
+use Rattle.rules.specs.declared.Broken.{Broken}
 use Rattle.declarations.specs.declared.Tally.{Tally}
-use Rattle.declarations.specs.declared.Tally.TheVariants as In
-use Rattle.declarations.specs.declared.Start.{Start}
-use Rattle.declarations.specs.declared.Start.TheVariants as At
-use Rattle.declarations.specs.declared.Rule.{Rule}
-use Rattle.declarations.specs.declared.Rule.TheVariants as Is
 use Rattle.declarations.specs.declared.Reached.{Reached}
-use Rattle.declarations.specs.declared.Reached.TheVariants as To
-use Rattle.declarations.specs.declared.Elaborated.{Elaborated}
-use Rattle.declarations.specs.declared.Elaborated.TheVariants as Whole
 
 -- The room for the globals: two words for each of 64 arrays and 256 functions.
 
@@ -56,10 +49,6 @@ array_fits arrays elements n = both (both (leb 1 n) (leb n most_elements)) (both
 unfoldable pub function_fits : ℕ → ℕ → Bool
 function_fits functions n = both (ltb functions most_functions) (leb n most_parameters)
 
--- the global of the header at h, with its offset or number
-abbrev pub global_from : List ℕ → List ℕ → ℕ → ℕ → Global
-global_from text tree h v = record { place = word tree (h + 1); name = name_at text tree h; thing = thing_at tree h v }
-
 -- a global more, after g of them
 pub record Adds (globals : List ℕ) (g h v : ℕ) (globals' : List ℕ) : Type 0 where
   pub is : (text tree : List ℕ) → globals_in text tree globals' (g + 1) ≡ global_from text tree h v ∷ globals_in text tree globals g
@@ -74,32 +63,32 @@ pub record Few (a e f : ℕ) : Type 0 where
   pub elements : e ≤ most_elements_in_all
   pub functions : f ≤ most_functions
 
-abbrev pub FewIn : Tally → Type 0
-FewIn (In.All a e f) = Few a e f
-FewIn (In.Broken at) = Unit {0}
+abbrev pub FewIn : Result Tally Broken → Type 0
+FewIn (Ok t) = Few t.arrays t.elements t.functions
+FewIn (Err b) = Unit {0}
 
-abbrev pub DeclareCase : List ℕ → List ℕ → Ruled Declared → Tally → List ℕ → Type 0
-DeclareCase text tree m (In.All a e f) globals' = m ≡ keeps (declared_in text tree globals' a e f)
-DeclareCase text tree m (In.Broken at) globals' = m ≡ breaks at
+abbrev pub DeclareCase : List ℕ → List ℕ → Ruled Declared → Result Tally Broken → List ℕ → Type 0
+DeclareCase text tree m (Ok t) globals' = m ≡ keeps (declared_in text tree globals' t.arrays t.elements t.functions)
+DeclareCase text tree m (Err b) globals' = m ≡ breaks b.0
 
 -- the item at p
-pub record Declares (text tree : List ℕ) (p : ℕ) (globals : List ℕ) (arrays elements functions : ℕ) (r : Tally) (globals' : List ℕ) : Type 0 where
+pub record Declares (text tree : List ℕ) (p : ℕ) (globals : List ℕ) (arrays elements functions : ℕ) (r : Result Tally Broken) (globals' : List ℕ) : Type 0 where
   pub by : (words : ℕ) (i : Item) (is : List Item) → Standing text tree words p (i ∷ is) →
       DeclareCase text tree (declare i (declared_in text tree globals arrays elements functions)) r globals'
   pub few : FewIn r
 
 -- all items
-pub record DeclaresAll (text tree : List ℕ) (words : ℕ) (r : Tally) (globals' : List ℕ) : Type 0 where
+pub record DeclaresAll (text tree : List ℕ) (words : ℕ) (r : Result Tally Broken) (globals' : List ℕ) : Type 0 where
   pub by : (is : List Item) → Standing text tree words 0 is → DeclareCase text tree (declare_all is nothing_declared) r globals'
   pub few : FewIn r
 
 -- `main`
 
-abbrev pub MainCase : Ruled ℕ → Start → Type 0
-MainCase m (At.Function f) = m ≡ keeps f
-MainCase m (At.Broken at) = m ≡ breaks at
+abbrev pub MainCase : Ruled ℕ → Result ℕ Broken → Type 0
+MainCase m (Ok f) = m ≡ keeps f
+MainCase m (Err b) = m ≡ breaks b.0
 
-pub record Begins (globals : List Global) (end : Place) (r : Start) : Type 0 where
+pub record Begins (globals : List Global) (end : Place) (r : Result ℕ Broken) : Type 0 where
   pub by : MainCase (main_of globals end) r
 
 -- Parameters
@@ -107,12 +96,12 @@ pub record Begins (globals : List Global) (end : Place) (r : Start) : Type 0 whe
 abbrev pub no_locals : (globals : List Global) → Scope globals
 no_locals globals = record { visible = []; count = 0 }
 
-abbrev pub TakeCase : (text : List ℕ) (globals : List Global) → Ruled (Scope globals) → ℕ → Rule → List ℕ → Type 0
-TakeCase text globals m n Is.Kept locals' = m ≡ keeps (scope_of globals text locals' n n)
-TakeCase text globals m n (Is.Broken at) locals' = m ≡ breaks at
+abbrev pub TakeCase : (text : List ℕ) (globals : List Global) → Ruled (Scope globals) → ℕ → Result ⊤ Broken → List ℕ → Type 0
+TakeCase text globals m n (Ok done) locals' = m ≡ keeps (scope_of globals text locals' n n)
+TakeCase text globals m n (Err b) locals' = m ≡ breaks b.0
 
 -- n parameters at ws
-pub record Takes (text : List ℕ) (globals : List Global) (n : ℕ) (ws : List ℕ) (r : Rule) (locals' : List ℕ) : Type 0 where
+pub record Takes (text : List ℕ) (globals : List Global) (n : ℕ) (ws : List ℕ) (r : Result ⊤ Broken) (locals' : List ℕ) : Type 0 where
   pub by : (ps : List Param) (more : List ℕ) → ws ≡ G.params_words ps more → n ≡ length ps → NamedParams text ps →
       TakeCase text globals (parameters globals ps (no_locals globals)) n r locals'
 
@@ -132,9 +121,8 @@ head_words = 1027
 abbrev pub core_room : ℕ
 core_room = tree_room + head_words
 
-pub record Rooms (tree : List ℕ) (g : ℕ) (locals types starts core : List ℕ) : Type 0 where
+pub record Rooms (tree : List ℕ) (locals types starts core : List ℕ) : Type 0 where
   pub words : length tree ≡ tree_room
-  pub globals : g ≤ most_arrays + most_functions
   pub for_locals : locals_room ≤ length locals
   pub for_types : operands_room ≤ length types
   pub for_starts : operands_room ≤ length starts
@@ -149,8 +137,8 @@ pub record Placed (p q e : ℕ) : Type 0 where
 -- Functions
 
 -- n statements at ws are whatever block has them
-pub record MustEnd (n : ℕ) (ws : List ℕ) (result : ℕ) (r : Bool) : Type 0 where
-  pub by : (b : T.Block) (more : List ℕ) → ws ≡ G.block_words b more → n ≡ G.count b → r ≡ must_end (result_of result) b
+pub record MustEnd (n : ℕ) (ws : List ℕ) (result : Option Ty) (r : Bool) : Type 0 where
+  pub by : (b : T.Block) (more : List ℕ) → ws ≡ G.block_words b more → n ≡ G.count b → r ≡ must_end result b
 
 -- the body, after the parameters, of which there are n
 unfoldable pub finished : (globals : List Global) → Place → ℕ → Option Ty → T.Block → Scope globals → Ruled C.Function
@@ -173,15 +161,15 @@ pub record Made (b : T.Block) (m : Ruled C.Function) (q e : ℕ) (core core' : L
   pub there : core' ≡ sets (sets core q (body_of value)) e (entry_of value q)
   pub size : block_length (flats value.body) ≡ length (G.block_words b [])
 
-abbrev pub MakeCase : T.Block → Ruled C.Function → ℕ → ℕ → List ℕ → Rule → List ℕ → Type 0
-MakeCase b m q e core Is.Kept core' = Made b m q e core core'
-MakeCase b m q e core (Is.Broken at) core' = m ≡ breaks at
+abbrev pub MakeCase : T.Block → Ruled C.Function → ℕ → ℕ → List ℕ → Result ⊤ Broken → List ℕ → Type 0
+MakeCase b m q e core (Ok done) core' = Made b m q e core core'
+MakeCase b m q e core (Err w) core' = m ≡ breaks w.0
 
-pub record Finishes (text tree : List ℕ) (globals : List Global) (locals : List ℕ) (p q e n : ℕ) (core : List ℕ) (r : Rule) (core' : List ℕ) : Type 0 where
+pub record Finishes (text tree : List ℕ) (globals : List Global) (locals : List ℕ) (p q e n : ℕ) (core : List ℕ) (r : Result ⊤ Broken) (core' : List ℕ) : Type 0 where
   pub by : (words : ℕ) (at : Place) (x : Name) (ps : List Param) (t : Option Ty) (b : T.Block) (is : List Item) → Standing text tree words p (T.function at x ps t b ∷ is) → n ≡ length ps →
       MakeCase b (finished globals at n t b (scope_of globals text locals n n)) q e core r core'
 
-pub record Makes (text tree : List ℕ) (globals : List Global) (p q e : ℕ) (core : List ℕ) (r : Rule) (core' : List ℕ) : Type 0 where
+pub record Makes (text tree : List ℕ) (globals : List Global) (p q e : ℕ) (core : List ℕ) (r : Result ⊤ Broken) (core' : List ℕ) : Type 0 where
   pub by : (words : ℕ) (at : Place) (x : Name) (ps : List Param) (t : Option Ty) (b : T.Block) (is : List Item) → Standing text tree words p (T.function at x ps t b ∷ is) → length ps ≤ most_parameters →
       MakeCase b (function_from globals at ps t b) q e core r core'
 
@@ -197,18 +185,18 @@ FewParameters (T.array at x n ∷ is) = FewParameters is
 FewParameters (T.function at x ps r b ∷ is) = (length ps ≤ most_parameters) × FewParameters is
 
 -- one item
-abbrev pub PassCase : List Global → ℕ → ℕ → List ℕ → Item → Reached → List ℕ → Type 0
-PassCase globals q f core (T.array at x n) (To.At j k) core' = (j ≡ q) × (k ≡ f) × (core' ≡ core)
-PassCase globals q f core (T.function at x ps t b) (To.At j k) core' =
-    (j ≡ q + length (G.block_words b [])) × (k ≡ f + 1) × Made b (function_from globals at ps t b) q (entry f) core core'
-PassCase globals q f core (T.array at x n) (To.Broken b) core' = ⊥
-PassCase globals q f core (T.function at x ps t c) (To.Broken b) core' = function_from globals at ps t c ≡ breaks b
+abbrev pub PassCase : List Global → ℕ → ℕ → List ℕ → Item → Result Reached Broken → List ℕ → Type 0
+PassCase globals q f core (T.array at x n) (Ok r) core' = (r.core ≡ q) × (r.functions ≡ f) × (core' ≡ core)
+PassCase globals q f core (T.function at x ps t b) (Ok r) core' =
+    (r.core ≡ q + length (G.block_words b [])) × (r.functions ≡ f + 1) × Made b (function_from globals at ps t b) q (entry f) core core'
+PassCase globals q f core (T.array at x n) (Err b) core' = ⊥
+PassCase globals q f core (T.function at x ps t c) (Err b) core' = function_from globals at ps t c ≡ breaks b.0
 
-abbrev pub PassBound : List ℕ → ℕ → ℕ → ℕ → Reached → Type 0
-PassBound tree p q f (To.At j k) = (j + p ≤ q + next_of tree p) × (k ≤ f + 1)
-PassBound tree p q f (To.Broken b) = Unit {0}
+abbrev pub PassBound : List ℕ → ℕ → ℕ → ℕ → Result Reached Broken → Type 0
+PassBound tree p q f (Ok r) = (r.core + p ≤ q + next_of tree p) × (r.functions ≤ f + 1)
+PassBound tree p q f (Err b) = Unit {0}
 
-pub record Passes (text tree : List ℕ) (globals : List Global) (p q f : ℕ) (core : List ℕ) (r : Reached) (core' : List ℕ) : Type 0 where
+pub record Passes (text tree : List ℕ) (globals : List Global) (p q f : ℕ) (core : List ℕ) (r : Result Reached Broken) (core' : List ℕ) : Type 0 where
   pub by : (words : ℕ) (i : Item) (is : List Item) → Standing text tree words p (i ∷ is) → FewParameters (i ∷ is) → PassCase globals q f core i r core'
   pub bounded : PassBound tree p q f r
 
@@ -221,11 +209,11 @@ pub record Filled (m : Ruled (List C.Function)) (total q : ℕ) (core core' : Li
   pub there : core' ≡ sets (sets core 3 (entries value (entry total) [])) (entry total) (bodies value [])
   pub short : q ≤ core_room
 
-abbrev pub FillCase : Ruled (List C.Function) → ℕ → List ℕ → Reached → List ℕ → Type 0
-FillCase m total core (To.At q f) core' = Filled m total q core core'
-FillCase m total core (To.Broken at) core' = m ≡ breaks at
+abbrev pub FillCase : Ruled (List C.Function) → ℕ → List ℕ → Result Reached Broken → List ℕ → Type 0
+FillCase m total core (Ok r) core' = Filled m total r.core core core'
+FillCase m total core (Err b) core' = m ≡ breaks b.0
 
-pub record Fills (text tree : List ℕ) (words : ℕ) (globals : List Global) (total : ℕ) (core : List ℕ) (r : Reached) (core' : List ℕ) : Type 0 where
+pub record Fills (text tree : List ℕ) (words : ℕ) (globals : List Global) (total : ℕ) (core : List ℕ) (r : Result Reached Broken) (core' : List ℕ) : Type 0 where
   pub by : (is : List Item) → Standing text tree words 0 is → FewParameters is → total ≡ function_count is → FillCase (functions_from globals is) total core r core'
 
 -- The whole
@@ -245,11 +233,11 @@ pub record Kept (m : Ruled C.Program) (n : ℕ) (core core' : List ℕ) : Type 0
   pub there : core' ≡ sets core 0 (words_of value)
   pub short : n ≤ core_room
 
-abbrev pub ElaborateCase : Ruled C.Program → List ℕ → Elaborated → List ℕ → Type 0
-ElaborateCase m core (Whole.Kept n) core' = Kept m n core core'
-ElaborateCase m core (Whole.Broken at) core' = m ≡ breaks at
+abbrev pub ElaborateCase : Ruled C.Program → List ℕ → Result ℕ Broken → List ℕ → Type 0
+ElaborateCase m core (Ok n) core' = Kept m n core core'
+ElaborateCase m core (Err b) core' = m ≡ breaks b.0
 
-pub record Builds (text tree : List ℕ) (words : ℕ) (globals : List Global) (total elements : ℕ) (core : List ℕ) (r : Elaborated) (core' : List ℕ) : Type 0 where
+pub record Builds (text tree : List ℕ) (words : ℕ) (globals : List Global) (total elements : ℕ) (core : List ℕ) (r : Result ℕ Broken) (core' : List ℕ) : Type 0 where
   pub by : (is : List Item) → Standing text tree words 0 is → FewParameters is → total ≡ function_count is → ElaborateCase (built globals is (length text) elements) core r core'
 
 -- the rooms that are lent, and the tree's words
@@ -263,5 +251,5 @@ pub record Lent (tree : List ℕ) (words : ℕ) (globals locals types starts cor
   pub for_core : core_room ≤ length core
 
 -- the text's tree, as `parse` gives it: its words were written to the tree's start
-pub record Elaborates (text tree : List ℕ) (words : ℕ) (core : List ℕ) (r : Elaborated) (core' : List ℕ) : Type 0 where
+pub record Elaborates (text tree : List ℕ) (words : ℕ) (core : List ℕ) (r : Result ℕ Broken) (core' : List ℕ) : Type 0 where
   pub by : (items : List Item) (before : List ℕ) → Parses text items → tree ≡ sets before 0 (G.tree_words items) → words ≡ length (G.tree_words items) → ElaborateCase (elaborate items (length text)) core r core'

@@ -3,189 +3,172 @@ ghost use Rattle.std.specs.Prelude.{◌≡◌, [], ◌∷◌, ◌+◌, ◌*◌, 
 ghost use Rattle.std.proofs.lemmas.List.Edits.{sets};
 ghost use Rattle.language.specs.Rules.{most_functions, most_parameters};
 ghost use Rattle.grammar.specs.Flat.{tree_room};
-ghost use Rattle.rules.specs.Tables.{globals_in};
-ghost use Rattle.rules.specs.Post.{most_places, most_words};
+ghost use Rattle.rules.specs.Bounds.{most_places, most_words};
+ghost use Rattle.rules.specs.Values.{result_in, globals_of};
 ghost use Rattle.declarations.specs.Post.{MustEnd, Rooms, Placed, Finishes, Makes, Passes, Fills};
 
 use crate::globals::{BODY_WORDS, HEADER_WORDS, MOST_PARAMETERS, PARAMETER_WORDS, next};
 use crate::parameters::parameters;
-use crate::{Reached, Rule};
+use crate::{Reached, Site};
 use flat::program;
+use grammar::tree::ValueType;
 use rules::blocks::block;
 use rules::calls::{PARAMETERS, RESULT};
 use rules::endings::ends_in_return;
-use rules::names::{NAME_PLACE, word};
-use rules::nodes::ARRAY;
-use rules::{Counted, Spot};
+use rules::program::{NAME_PLACE, Program, is_array};
+use rules::types::result_type;
+use rules::{Broken, Scope, Spot};
+use word::lists::word;
 
 // Which word of a function's header says how many statements its body has.
 const STATEMENTS: usize = 5;
 
 // Whether a function's block ends in return where it must: the n statements from p on, and its result's type.
-pub fn must_end(tree: &[u32], p: usize, n: u32, res: u32) -> bool
+pub fn must_end(tree: &[u32], p: usize, n: u32, result_type: Option<ValueType>) -> bool
     requires { (length tree.now ≤ most_words) × (p ≤ most_places) }
-    ensures { MustEnd n (drop p tree.now) res result }
+    ensures { MustEnd n (drop p tree.now) (result_in result_type) result }
 {
-    if res == 0 {
-        return true;
+    match result_type {
+        None => true,
+        Some(_) => ends_in_return(tree, p, n),
     }
-    ends_in_return(tree, p, n)
 }
 
 // A function's entry: its body's place, how many statements that has, its parameters, its lets.
-pub fn put_entry(
-    core: &mut [u32],
-    at: usize,
-    place: u32,
-    statements: u32,
-    parameters: u32,
-    lets: u32,
-)
-    requires { at + 4 ≤ length core.old }
-    ensures { core.new ≡ sets core.old at (place ∷ statements ∷ parameters ∷ lets ∷ []) }
-{
-    core[at] = place;
-    core[at + 1] = statements;
-    core[at + 2] = parameters;
-    core[at + 3] = lets;
+#[derive(Clone, Copy)]
+pub struct Entry {
+    pub place: u32,
+    pub statements: u32,
+    pub parameters: u32,
+    pub lets: u32,
 }
 
-// The body of the function at p, which has n parameters, from q on, and its entry at e.
+impl Entry {
+    // The entry stands at this word. Store by store, as a header (`rules::head::CoreHead::write`).
+    pub fn write(self, core: &mut [u32], at: usize)
+        requires { at + 4 ≤ length core.old }
+        ensures { core.new ≡ sets core.old at (self.place ∷ self.statements ∷ self.parameters ∷ self.lets ∷ []) }
+    {
+        core[at] = self.place;
+        core[at + 1] = self.statements;
+        core[at + 2] = self.parameters;
+        core[at + 3] = self.lets;
+    }
+}
+
+// The body of the function here, which has n parameters, and its entry.
 pub fn finish(
-    text: &[u8],
-    tree: &[u32],
-    globals: &[u32],
-    g: usize,
+    program: &Program,
     locals: &mut [u32],
     types: &mut [u32],
     starts: &mut [u32],
     core: &mut [u32],
-    p: usize,
-    q: usize,
-    e: usize,
+    site: Site,
     n: u32,
-) -> Rule
-    requires { Rooms tree.now g locals.old types.old starts.old core.old × Placed p q e × (n ≤ most_parameters) }
-    ensures { Finishes text.now tree.now (globals_in text.now tree.now globals.now g) locals.old p q e n core.old result core.new }
+) -> Result<(), Broken>
+    requires { Rooms program.now.tree.now locals.old types.old starts.old core.old × Placed site.item site.body site.entry × (n ≤ most_parameters) }
+    ensures { Finishes program.now.text.now program.now.tree.now (globals_of program.now) locals.old site.item site.body site.entry n core.old result core.new }
 {
-    let result = word(tree, p + RESULT);
-    let many = word(tree, p + STATEMENTS);
-    let first = p + HEADER_WORDS + PARAMETER_WORDS * n as usize;
+    let tree = program.tree;
+    let result = result_type(word(tree, site.item + RESULT));
+    let many = word(tree, site.item + STATEMENTS);
+    let first = site.item + HEADER_WORDS + PARAMETER_WORDS * n as usize;
     let body = Spot {
         tree: first,
-        core: q,
-        globals: g,
-        visible: n as usize,
-        count: n,
+        core: site.body,
+        scope: Scope {
+            visible: n as usize,
+            count: n,
+        },
         result,
     };
-    let c = block(text, tree, globals, locals, types, starts, core, body, many);
-    match c {
-        Counted::Count(count) => {
-            if !must_end(tree, first, many, result) {
-                return Rule::Broken(word(tree, p + NAME_PLACE));
-            }
-            put_entry(core, e, q as u32, many, n, count - n);
-            Rule::Kept
-        }
-        Counted::Broken(b) => Rule::Broken(b),
+    let count = block(program, locals, types, starts, core, body, many)?;
+    if !must_end(tree, first, many, result) {
+        return Err(Broken(word(tree, site.item + NAME_PLACE) as usize));
     }
+    let entry = Entry {
+        place: site.body as u32,
+        statements: many,
+        parameters: n,
+        lets: count - n,
+    };
+    entry.write(core, site.entry);
+    Ok(())
 }
 
-// The function at p: its body from q on, and its entry at e.
+// The function here: its body and its entry.
 pub fn function(
-    text: &[u8],
-    tree: &[u32],
-    globals: &[u32],
-    g: usize,
+    program: &Program,
     locals: &mut [u32],
     types: &mut [u32],
     starts: &mut [u32],
     core: &mut [u32],
-    p: usize,
-    q: usize,
-    e: usize,
-) -> Rule
-    requires { Rooms tree.now g locals.old types.old starts.old core.old × Placed p q e }
-    ensures { Makes text.now tree.now (globals_in text.now tree.now globals.now g) p q e core.old result core.new }
+    site: Site,
+) -> Result<(), Broken>
+    requires { Rooms program.now.tree.now locals.old types.old starts.old core.old × Placed site.item site.body site.entry }
+    ensures { Makes program.now.text.now program.now.tree.now (globals_of program.now) site.item site.body site.entry core.old result core.new }
 {
-    let n = word(tree, p + PARAMETERS);
+    let n = word(program.tree, site.item + PARAMETERS);
     // no function with more was declared
     if MOST_PARAMETERS < n {
-        return Rule::Broken(0);
+        return Err(Broken(0));
     }
-    let s = parameters(text, tree, globals, g, locals, p + HEADER_WORDS, n);
-    match s {
-        Rule::Kept => finish(
-            text, tree, globals, g, locals, types, starts, core, p, q, e, n,
-        ),
-        Rule::Broken(b) => Rule::Broken(b),
-    }
+    parameters(program, locals, site.item + HEADER_WORDS, n)?;
+    finish(program, locals, types, starts, core, site, n)
 }
 
-// The item at p, before which there are f functions, and the core's words up to q.
+// The item at p, up to which so much was reached.
 pub fn item(
-    text: &[u8],
-    tree: &[u32],
-    globals: &[u32],
-    g: usize,
+    program: &Program,
     locals: &mut [u32],
     types: &mut [u32],
     starts: &mut [u32],
     core: &mut [u32],
     p: usize,
-    q: usize,
-    f: usize,
-) -> Reached
-    requires { Rooms tree.now g locals.old types.old starts.old core.old × Placed p q (3 + 4 * f) }
-    ensures { Passes text.now tree.now (globals_in text.now tree.now globals.now g) p q f core.old result core.new }
+    reached: Reached,
+) -> Result<Reached, Broken>
+    requires { Rooms program.now.tree.now locals.old types.old starts.old core.old × Placed p reached.core (3 + 4 * reached.functions) }
+    ensures { Passes program.now.text.now program.now.tree.now (globals_of program.now) p reached.core reached.functions core.old result core.new }
 {
-    let kind = word(tree, p);
-    if kind == ARRAY {
-        return Reached::At(q, f);
+    if is_array(program.tree, p) {
+        return Ok(reached);
     }
-    let e = program::WORDS as usize + program::FUNCTION_WORDS as usize * f;
-    let m = function(text, tree, globals, g, locals, types, starts, core, p, q, e);
-    match m {
-        Rule::Kept => {
-            let body = word(tree, p + BODY_WORDS);
-            Reached::At(q + body as usize, f + 1)
-        }
-        Rule::Broken(b) => Reached::Broken(b),
-    }
+    let entry = program::WORDS as usize + program::FUNCTION_WORDS as usize * reached.functions;
+    let site = Site {
+        item: p,
+        body: reached.core,
+        entry,
+    };
+    function(program, locals, types, starts, core, site)?;
+    let body = word(program.tree, p + BODY_WORDS);
+    Ok(Reached {
+        core: reached.core + body as usize,
+        functions: reached.functions + 1,
+    })
 }
 
 // All functions, `total` of them: their bodies and their entries.
 pub fn functions(
-    text: &[u8],
-    tree: &[u32],
+    program: &Program,
     words: usize,
-    globals: &[u32],
-    g: usize,
     locals: &mut [u32],
     types: &mut [u32],
     starts: &mut [u32],
     core: &mut [u32],
     total: u32,
-) -> Reached
-    requires { Rooms tree.now g locals.old types.old starts.old core.old × (words ≤ tree_room) × (total ≤ most_functions) }
-    ensures { Fills text.now tree.now words (globals_in text.now tree.now globals.now g) total core.old result core.new }
+) -> Result<Reached, Broken>
+    requires { Rooms program.now.tree.now locals.old types.old starts.old core.old × (words ≤ tree_room) × (total ≤ most_functions) }
+    ensures { Fills program.now.text.now program.now.tree.now words (globals_of program.now) total core.old result core.new }
 {
     let mut p: usize = 0;
-    let mut f: usize = 0;
-    let mut q = program::WORDS as usize + program::FUNCTION_WORDS as usize * total as usize;
+    let mut reached = Reached {
+        core: program::WORDS as usize + program::FUNCTION_WORDS as usize * total as usize,
+        functions: 0,
+    };
+    // a walk and no count: an item's header says how far it reaches
     while p < words {
-        let r = item(text, tree, globals, g, locals, types, starts, core, p, q, f);
-        match r {
-            Reached::At(j, k) => {
-                q = j;
-                f = k;
-            }
-            Reached::Broken(b) => {
-                return Reached::Broken(b);
-            }
-        }
-        p = next(tree, p);
+        reached = item(program, locals, types, starts, core, p, reached)?;
+        p = next(program.tree, p);
     }
-    Reached::At(q, f)
+    Ok(reached)
 }

@@ -2,13 +2,17 @@
 ghost use Rattle.std.specs.Prelude.{◌≡◌, ◌+◌, ◌*◌, ◌≤◌, ◌<◌, length};
 ghost use Rattle.language.specs.Rules.{most_elements_in_all};
 ghost use Rattle.grammar.specs.Flat.{tree_room};
-ghost use Rattle.rules.specs.Post.{most_entries, most_places};
+ghost use Rattle.rules.specs.Bounds.{most_entries, most_places};
 ghost use Rattle.declarations.specs.Post.{globals_room, next_of, is_new, array_fits, function_fits, Adds, Few, Declares, DeclaresAll};
 
 use crate::Tally;
+use rules::Broken;
 use rules::calls::PARAMETERS;
-use rules::names::{GLOBAL_VALUE, GLOBAL_WORDS, NAME_LENGTH, NAME_PLACE, find_global, word};
-use rules::nodes::{ARRAY, HEADER_SIZE};
+use rules::names::Name;
+use rules::program::{
+    GLOBAL_VALUE, GLOBAL_WORDS, Global, HEADER_SIZE, NAME_LENGTH, NAME_PLACE, Program, is_array,
+};
+use word::lists::word;
 
 // Words of room for the table.
 pub const GLOBALS_ROOM: usize = 640;
@@ -36,8 +40,7 @@ pub fn next(tree: &[u32], p: usize) -> usize
     requires { p ≤ most_places }
     ensures { result ≡ next_of tree.now p }
 {
-    let kind = word(tree, p);
-    if kind == ARRAY {
+    if is_array(tree, p) {
         return p + HEADER_WORDS;
     }
     let n = word(tree, p + PARAMETERS);
@@ -50,10 +53,15 @@ pub fn is_new(text: &[u8], tree: &[u32], globals: &[u32], g: usize, p: usize) ->
     requires { (g ≤ most_entries) × (p ≤ most_places) }
     ensures { result ≡ is_new text.now tree.now globals.now g p }
 {
-    let a = word(tree, p + NAME_PLACE);
-    let n = word(tree, p + NAME_LENGTH);
-    let i = find_global(text, tree, globals, g, a, n);
-    i == 0
+    let program = Program {
+        text,
+        tree,
+        globals,
+        count: g,
+    };
+    let place = word(tree, p + NAME_PLACE);
+    let length = word(tree, p + NAME_LENGTH);
+    program.find_global(Name { place, length }).is_none()
 }
 
 // Whether an array of n elements is allowed.
@@ -83,14 +91,14 @@ pub fn function_fits(functions: u32, n: u32) -> bool
     n <= MOST_PARAMETERS
 }
 
-// An entry more, after g of them: its header's place in the tree, its array's offset or its function's number.
-pub fn add(globals: &mut [u32], g: usize, header: u32, value: u32)
+// An entry more, after g of them.
+pub fn add(globals: &mut [u32], g: usize, global: Global)
     requires { (g ≤ most_entries) × (2 * g + 2 ≤ length globals.old) }
-    ensures { Adds globals.old g header value globals.new }
+    ensures { Adds globals.old g global.header global.value globals.new }
 {
     let i = GLOBAL_WORDS * g;
-    globals[i] = header;
-    globals[i + GLOBAL_VALUE] = value;
+    globals[i] = global.header;
+    globals[i + GLOBAL_VALUE] = global.value;
 }
 
 // The item at p is declared, after so many.
@@ -99,56 +107,61 @@ pub fn declare(
     tree: &[u32],
     globals: &mut [u32],
     p: usize,
-    arrays: u32,
-    elements: u32,
-    functions: u32,
-) -> Tally
-    requires { (globals_room ≤ length globals.old) × (p < tree_room) × Few arrays elements functions }
-    ensures { Declares text.now tree.now p globals.old arrays elements functions result globals.new }
+    tally: Tally,
+) -> Result<Tally, Broken>
+    requires { (globals_room ≤ length globals.old) × (p < tree_room) × Few tally.arrays tally.elements tally.functions }
+    ensures { Declares text.now tree.now p globals.old tally.arrays tally.elements tally.functions result globals.new }
 {
-    let at = word(tree, p + NAME_PLACE);
-    let g = (arrays + functions) as usize;
+    let at = word(tree, p + NAME_PLACE) as usize;
+    let g = (tally.arrays + tally.functions) as usize;
     if !is_new(text, tree, globals, g, p) {
-        return Tally::Broken(at);
+        return Err(Broken(at));
     }
-    let kind = word(tree, p);
     let n = word(tree, p + HEADER_SIZE);
-    if kind == ARRAY {
-        if !array_fits(arrays, elements, n) {
-            return Tally::Broken(at);
+    let header = p as u32;
+    if is_array(tree, p) {
+        if !array_fits(tally.arrays, tally.elements, n) {
+            return Err(Broken(at));
         }
-        add(globals, g, p as u32, elements);
-        return Tally::All(arrays + 1, elements + n, functions);
+        let value = tally.elements;
+        add(globals, g, Global { header, value });
+        return Ok(Tally {
+            arrays: tally.arrays + 1,
+            elements: tally.elements + n,
+            ..tally
+        });
     }
-    if !function_fits(functions, n) {
-        return Tally::Broken(at);
+    if !function_fits(tally.functions, n) {
+        return Err(Broken(at));
     }
-    add(globals, g, p as u32, functions);
-    Tally::All(arrays, elements, functions + 1)
+    let value = tally.functions;
+    add(globals, g, Global { header, value });
+    Ok(Tally {
+        functions: tally.functions + 1,
+        ..tally
+    })
 }
 
 // All items, in the `words` words of the tree.
-pub fn declare_all(text: &[u8], tree: &[u32], words: usize, globals: &mut [u32]) -> Tally
+pub fn declare_all(
+    text: &[u8],
+    tree: &[u32],
+    words: usize,
+    globals: &mut [u32],
+) -> Result<Tally, Broken>
     requires { (globals_room ≤ length globals.old) × (words ≤ tree_room) }
     ensures { DeclaresAll text.now tree.now words result globals.new }
 {
     let mut p: usize = 0;
-    let mut arrays: u32 = 0;
-    let mut elements: u32 = 0;
-    let mut functions: u32 = 0;
+    let mut tally = Tally {
+        arrays: 0,
+        elements: 0,
+        functions: 0,
+    };
+    // a walk and no count: an item's header says how far it reaches
     while p < words {
-        let t = declare(text, tree, globals, p, arrays, elements, functions);
-        match t {
-            Tally::All(a, e, f) => {
-                arrays = a;
-                elements = e;
-                functions = f;
-            }
-            Tally::Broken(at) => {
-                return Tally::Broken(at);
-            }
-        }
+        tally = declare(text, tree, globals, p, tally)?;
         p = next(tree, p);
     }
-    Tally::All(arrays, elements, functions)
+    Ok(tally)
 }

@@ -3,14 +3,16 @@ ghost use Rattle.std.specs.Prelude.{◌≡◌, [], ◌∷◌, ◌≤◌, length}
 ghost use Rattle.std.proofs.lemmas.List.Edits.{sets};
 ghost use Rattle.language.specs.Rules.{most_functions};
 ghost use Rattle.grammar.specs.Flat.{tree_room};
-ghost use Rattle.rules.specs.Tables.{globals_in};
+ghost use Rattle.rules.specs.Values.{globals_of};
 ghost use Rattle.declarations.specs.Post.{Rooms, Lent, Builds, Elaborates};
 
+use crate::Tally;
 use crate::entry::main_of;
 use crate::functions::functions;
 use crate::globals::declare_all;
-use crate::{Elaborated, Reached, Start, Tally};
 use flat::program;
+use rules::Broken;
+use rules::program::Program;
 
 // Words of room for locals, for each of the two rows of operands, and for the core.
 pub const LOCALS_ROOM: usize = 260;
@@ -19,7 +21,8 @@ pub const OPERANDS_ROOM: usize = 131072;
 
 pub const CORE_ROOM: usize = 525315;
 
-// A program's first words: how many functions, main's number, how many elements the arrays have together.
+// A program's first words: how many functions, main's number, how many elements the arrays have together. Store by store, since a slice would drop the
+// words' names.
 pub fn put_header(core: &mut [u32], functions: u32, main: u32, elements: u32)
     requires { 3 ≤ length core.old }
     ensures { core.new ≡ sets core.old 0 (functions ∷ main ∷ elements ∷ []) }
@@ -29,37 +32,24 @@ pub fn put_header(core: &mut [u32], functions: u32, main: u32, elements: u32)
     core[program::ELEMENTS as usize] = elements;
 }
 
-// After the declarations: `main`, and then the functions, `total` of them.
+// After the declarations: `main`, and then the functions.
 pub fn build(
-    text: &[u8],
-    tree: &[u32],
+    program: &Program,
     words: usize,
-    globals: &[u32],
-    g: usize,
     locals: &mut [u32],
     types: &mut [u32],
     starts: &mut [u32],
     core: &mut [u32],
-    total: u32,
-    elements: u32,
-) -> Elaborated
-    requires { Rooms tree.now g locals.old types.old starts.old core.old × (words ≤ tree_room) × (total ≤ most_functions) }
-    ensures { Builds text.now tree.now words (globals_in text.now tree.now globals.now g) total elements core.old result core.new }
+    tally: Tally,
+) -> Result<usize, Broken>
+    requires { Rooms program.now.tree.now locals.old types.old starts.old core.old × (words ≤ tree_room) × (tally.functions ≤ most_functions) }
+    ensures { Builds program.now.text.now program.now.tree.now words (globals_of program.now) tally.functions tally.elements core.old result core.new }
 {
-    let s = main_of(text, tree, globals, g);
-    match s {
-        Start::Function(m) => {
-            put_header(core, total, m, elements);
-            let r = functions(
-                text, tree, words, globals, g, locals, types, starts, core, total,
-            );
-            match r {
-                Reached::At(q, _) => Elaborated::Kept(q),
-                Reached::Broken(b) => Elaborated::Broken(b as usize),
-            }
-        }
-        Start::Broken(b) => Elaborated::Broken(b),
-    }
+    let main = main_of(program)?;
+    let total = tally.functions;
+    put_header(core, total, main, tally.elements);
+    let reached = functions(program, words, locals, types, starts, core, total)?;
+    Ok(reached.core)
 }
 
 // The core program of a text whose tree stands in the first `words` words of `tree`, in the first words of `core`; or the place of a broken rule.
@@ -72,18 +62,17 @@ pub fn elaborate(
     types: &mut [u32],
     starts: &mut [u32],
     core: &mut [u32],
-) -> Elaborated
+) -> Result<usize, Broken>
     requires { Lent tree.now words globals.old locals.old types.old starts.old core.old }
     ensures { Elaborates text.now tree.now words core.old result core.new }
 {
-    let t = declare_all(text, tree, words, globals);
-    match t {
-        Tally::All(a, e, f) => {
-            let g = (a + f) as usize;
-            build(
-                text, tree, words, globals, g, locals, types, starts, core, f, e,
-            )
-        }
-        Tally::Broken(b) => Elaborated::Broken(b as usize),
-    }
+    let tally = declare_all(text, tree, words, globals)?;
+    let count = (tally.arrays + tally.functions) as usize;
+    let program = Program {
+        text,
+        tree,
+        globals,
+        count,
+    };
+    build(&program, words, locals, types, starts, core, tally)
 }

@@ -1,192 +1,208 @@
-// Document 01 §5: texts, run by the interpreter.
-use crate::line;
-use crate::say::{count, fill_words, kept, refusal, say, state, wide, words_kept};
-use interpreter::{Outcome, Ran};
-use std::io;
+// Document 01 §5 and document 03 §5: texts, run by the interpreter, and images, run by the emulator.
+use crate::lent::{Short, Work, shortened};
+use crate::line::Line;
+use crate::say::{Answer, BYTE, Left, WORD, is_kept, kept};
+use console::lent::filled;
+use console::shown::End;
+use emulator::run::Ended;
+use interpreter::Ran;
+use processor::Status;
 use std::io::Write;
-use toolchain::interpret;
-use toolchain::interpret::Interpreted;
+use std::{fmt, io};
+use toolchain::{Refusal, interpret};
 
-// What a line asks: which buffers of working room are a word short, the fuel, the log's room, the words of log and of arrays that are lent, the bytes of the
-// input block; and where the bytes of the block and of the text begin.
+// Document 01 §4: elements in all.
+const MOST_ELEMENTS: usize = 16384;
+
+// Where the input block lies in memory, in words, and how many bytes and registers a run may write.
+const BLOCK_WORD: usize = 0x40000;
+
+const MEMORY: usize = 0x200000;
+
+const REGISTERS: usize = 32;
+
+// What a line asks: which buffers of working room are a word short, the fuel, the log's room, the words of log and of arrays that are lent, and the bytes of
+// the input block.
 #[derive(Clone, Copy)]
 pub struct Asked {
-    pub short: u64,
+    pub short: Short,
     pub fuel: u64,
     pub room: u64,
     pub log: u64,
     pub arrays: u64,
     pub block: u64,
-    pub next: usize,
 }
 
-pub fn question(line: &[u8]) -> Asked {
-    let short = line::number(line, 2);
-    let fuel = line::number(line, short.next);
-    let room = line::number(line, fuel.next);
-    let log = line::number(line, room.next);
-    let arrays = line::number(line, log.next);
-    let block = line::number(line, arrays.next);
-    Asked {
-        short: short.value,
-        fuel: fuel.value,
-        room: room.value,
-        log: log.value,
-        arrays: arrays.value,
-        block: block.value,
-        next: block.next,
-    }
-}
-
-fn say_outcome(out: &mut impl Write, o: Outcome) -> io::Result<()> {
-    match o {
-        Outcome::Finished => say(out, b"finished"),
-        Outcome::Trapped(n) => {
-            say(out, b"trap ")?;
-            count(out, wide(n))
+impl Asked {
+    pub fn of(line: &mut Line<'_>) -> Self {
+        Asked {
+            short: line.next_number(),
+            fuel: line.next_number(),
+            room: line.next_number(),
+            log: line.next_number(),
+            arrays: line.next_number(),
+            block: line.next_number(),
         }
-        Outcome::OutOfFuel => say(out, b"out of fuel"),
     }
 }
 
-fn used(fuel: u64, left: u64) -> u64 {
-    if left <= fuel { fuel - left } else { 0 }
-}
+// How a run of an image stopped, by the names of a text's outcomes, so that the two lines are the same; `console` has the names of stops.
+#[derive(Clone, Copy)]
+struct Stop(Status);
 
-fn say_run(
-    out: &mut impl Write,
-    r: Ran,
-    fuel: u64,
-    arrays: &[u32],
-    elements: usize,
-    log: &[u32],
-) -> io::Result<()> {
-    let o = r.outcome;
-    say_outcome(out, o)?;
-    say(out, b" fuel ")?;
-    count(out, used(fuel, r.fuel))?;
-    state(out, log, r.logged, arrays, elements)
-}
-
-// The outcome, then whether all that the call had to keep was kept.
-fn answer(
-    out: &mut impl Write,
-    r: Interpreted,
-    fuel: u64,
-    arrays: &[u32],
-    elements: usize,
-    log: &[u32],
-) -> io::Result<()> {
-    match r {
-        Interpreted::Refused(n, at) => {
-            refusal(out, n, at)?;
-            kept(out, words_kept(arrays, 0), words_kept(log, 0))
+impl fmt::Display for Stop {
+    fn fmt<W: fmt::Write>(&self, f: &mut fmt::Formatter<W>) -> fmt::Result {
+        match self.0 {
+            Status::Going => write!(f, "going"),
+            Status::Exit => write!(f, "finished"),
+            Status::Trap(number) => write!(f, "trap {number}"),
+            Status::Fault(number) => write!(f, "fault {number}"),
+            Status::Limit => write!(f, "limit"),
         }
-        Interpreted::Ran(e) => say_run(out, e, fuel, arrays, elements, log),
     }
 }
 
-// A run of a text on a block, with the buffers that are lent.
-fn run_lent(
-    out: &mut impl Write,
-    room: usize,
-    fuel: u64,
-    block: &[u8],
-    text: &[u8],
-    arrays: &mut [u32],
-    log: &mut [u32],
-    tokens: &mut [u32],
-    tree: &mut [u32],
-    starts: &mut [u32],
-    core: &mut [u32],
-) -> io::Result<()> {
-    fill_words(arrays);
-    fill_words(log);
-    let r = interpret::interpret(
-        text, block, arrays, log, room, fuel, tokens, tree, starts, core,
-    );
-    answer(out, r, fuel, arrays, block.len() / 4, log)
+// A hundred steps for each unit of fuel, and a thousand besides.
+fn limit_of(fuel: u64) -> u64 {
+    (fuel & 0xffffffff) * 100 + 1000
 }
 
-// The same with as much of each buffer as was asked.
-fn run_text(
-    out: &mut impl Write,
-    q: Asked,
-    fuel: u64,
-    block: &[u8],
-    text: &[u8],
-    arrays: &mut [u32],
-    log: &mut [u32],
-    tokens: &mut [u32],
-    tree: &mut [u32],
-    starts: &mut [u32],
-    core: &mut [u32],
-) -> io::Result<()> {
-    let xs = line::at_most(q.arrays, arrays.len());
-    let ls = line::at_most(q.log, log.len());
-    let a = line::shortened(tokens.len(), q.short, 1);
-    let b = line::shortened(tree.len(), q.short, 2);
-    let c = line::shortened(starts.len(), q.short, 4);
-    let d = line::shortened(core.len(), q.short, 8);
-    run_lent(
-        out,
-        q.room as usize,
-        fuel,
-        block,
-        text,
-        &mut arrays[..xs],
-        &mut log[..ls],
-        &mut tokens[..a],
-        &mut tree[..b],
-        &mut starts[..c],
-        &mut core[..d],
-    )
-}
-
-// The same with every fuel from 0 to the one that was asked.
-fn run_fuels(
-    out: &mut impl Write,
-    q: Asked,
-    block: &[u8],
-    text: &[u8],
-    arrays: &mut [u32],
-    log: &mut [u32],
-    tokens: &mut [u32],
-    tree: &mut [u32],
-    starts: &mut [u32],
-    core: &mut [u32],
-) -> io::Result<()> {
-    let mut fuel: u64 = 0;
-    while fuel < q.fuel {
-        run_text(
-            out, q, fuel, block, text, arrays, log, tokens, tree, starts, core,
-        )?;
-        fuel += 1;
+// The words of the arrays, from where the input block lies in memory; past the most elements 0.
+fn copy_arrays(memory: &[u8], arrays: &mut [u32], elements: usize) {
+    let (words, _) = memory.as_chunks::<4>();
+    for (i, place) in arrays.iter_mut().take(elements).enumerate() {
+        *place = match words.get(BLOCK_WORD + i) {
+            Some(word) if i < MOST_ELEMENTS => u32::from_le_bytes(*word),
+            _ => 0,
+        };
     }
-    run_text(
-        out, q, fuel, block, text, arrays, log, tokens, tree, starts, core,
-    )
 }
 
-// Which of the two.
-pub fn run_asked(
-    out: &mut impl Write,
-    every: bool,
-    q: Asked,
-    block: &[u8],
-    text: &[u8],
-    arrays: &mut [u32],
-    log: &mut [u32],
-    tokens: &mut [u32],
-    tree: &mut [u32],
-    starts: &mut [u32],
-    core: &mut [u32],
-) -> io::Result<()> {
-    if every {
-        run_fuels(out, q, block, text, arrays, log, tokens, tree, starts, core)
-    } else {
-        run_text(
-            out, q, q.fuel, block, text, arrays, log, tokens, tree, starts, core,
-        )
+// A run on a block: of a text, or of its image; and what it is lent.
+#[derive(Drop)]
+pub struct Run<'a> {
+    pub program: &'a [u8],
+    pub block: &'a [u8],
+    pub arrays: &'a mut [u32],
+    pub log: &'a mut [u32],
+    pub room: usize,
+}
+
+impl Run<'_> {
+    // What was left; the block has a word for each element.
+    fn left(&self, logged: usize) -> Left<'_> {
+        Left {
+            log: self.log,
+            logged,
+            arrays: self.arrays,
+            elements: self.block.len() / 4,
+        }
+    }
+
+    // Of a text, with so much fuel.
+    pub fn interpret(
+        &mut self,
+        out: &mut impl Write,
+        fuel: u64,
+        short: Short,
+        work: &mut Work<'_>,
+    ) -> io::Result<()> {
+        self.arrays.fill(WORD);
+        self.log.fill(WORD);
+        let tokens = shortened(work.tokens, short, 1);
+        let tree = shortened(work.tree, short, 2);
+        let starts = shortened(work.starts, short, 4);
+        let core = shortened(work.core, short, 8);
+        let answered = interpret::interpret(
+            self.program,
+            self.block,
+            self.arrays,
+            self.log,
+            self.room,
+            fuel,
+            tokens,
+            tree,
+            starts,
+            core,
+        );
+        self.answer(out, answered, fuel)
+    }
+
+    // The outcome, then whether all that the call had to keep was kept.
+    fn answer(
+        &self,
+        out: &mut impl Write,
+        answered: Result<Ran, Refusal>,
+        fuel: u64,
+    ) -> io::Result<()> {
+        match answered {
+            Err(refusal) => {
+                let all = is_kept(self.arrays, 0, WORD) && is_kept(self.log, 0, WORD);
+                writeln!(out, "{} {}", Answer::of(refusal), kept(all))
+            }
+            Ok(ran) => {
+                let used = fuel.saturating_sub(ran.fuel);
+                let outcome = ran.outcome;
+                writeln!(
+                    out,
+                    "{} fuel {used} {}",
+                    End(outcome),
+                    self.left(ran.logged)
+                )
+            }
+        }
+    }
+
+    // Of an image; its words and steps are said too, if that is asked.
+    pub fn emulate(&mut self, out: &mut impl Write, fuel: u64, counted: bool) -> io::Result<()> {
+        let mut memory = filled::<u8, 2097216>(BYTE);
+        let mut registers = [WORD; 40];
+        self.arrays.fill(WORD);
+        self.log.fill(WORD);
+        let answered = toolchain::emulate(
+            self.program,
+            self.block,
+            &mut memory,
+            &mut registers,
+            self.log,
+            self.room,
+            limit_of(fuel),
+        );
+        match answered {
+            Err(refusal) => {
+                let all = is_kept(self.log, 0, WORD) && is_kept(&memory, 0, BYTE);
+                writeln!(out, "{} {}", Answer::of(refusal), kept(all))
+            }
+            Ok(ended) => { self.say_ended(out, ended, counted, &memory, &registers) }
+        }
+    }
+
+    // Where a run of an image ended: said as one of its text is.
+    fn say_ended(
+        &mut self,
+        out: &mut impl Write,
+        ended: Ended,
+        counted: bool,
+        memory: &[u8],
+        registers: &[u32],
+    ) -> io::Result<()> {
+        let Ended {
+            logged,
+            steps,
+            status,
+            pc: _,
+        } = ended;
+        write!(out, "{}", Stop(status))?;
+        if counted {
+            write!(out, " words {} steps {steps}", self.program.len() / 4)?;
+        }
+        if !is_kept(memory, MEMORY, BYTE) {
+            write!(out, " CHANGED")?;
+        }
+        if !is_kept(registers, REGISTERS, WORD) {
+            write!(out, " CHANGED")?;
+        }
+        copy_arrays(memory, self.arrays, self.block.len() / 4);
+        writeln!(out, " {}", self.left(logged))
     }
 }

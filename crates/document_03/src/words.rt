@@ -1,106 +1,71 @@
-// An instruction by name: its fields in hex, immediates as words.
+// An instruction by name: its fields in hex, in the order rd, rs1, rs2, immediate, and immediates as words.
 use processor::{Alu, Cond, Instr, Width};
-use std::io;
-use std::io::Write;
+use std::fmt;
 
-fn field(out: &mut impl Write, n: u32) -> io::Result<()> {
-    out.write_all(b" ")?;
-    write!(out, "{n:x}")
-}
+#[derive(Clone, Copy)]
+pub struct Named(pub Instr);
 
-fn three(out: &mut impl Write, text: &[u8], a: u32, b: u32, c: u32) -> io::Result<()> {
-    out.write_all(text)?;
-    field(out, a)?;
-    field(out, b)?;
-    field(out, c)
-}
-
-fn two(out: &mut impl Write, text: &[u8], a: u32, b: u32) -> io::Result<()> {
-    out.write_all(text)?;
-    field(out, a)?;
-    field(out, b)
-}
-
-fn say_alu(out: &mut impl Write, o: Alu) -> io::Result<()> {
-    match o {
-        Alu::Add => out.write_all(b"add"),
-        Alu::Sub => out.write_all(b"sub"),
-        Alu::Sll => out.write_all(b"sll"),
-        Alu::Slt => out.write_all(b"slt"),
-        Alu::Sltu => out.write_all(b"sltu"),
-        Alu::Xor => out.write_all(b"xor"),
-        Alu::Srl => out.write_all(b"srl"),
-        Alu::Sra => out.write_all(b"sra"),
-        Alu::Or => out.write_all(b"or"),
-        Alu::And => out.write_all(b"and"),
-        Alu::Mul => out.write_all(b"mul"),
-        Alu::Mulh => out.write_all(b"mulh"),
-        Alu::Mulhsu => out.write_all(b"mulhsu"),
-        Alu::Mulhu => out.write_all(b"mulhu"),
-        Alu::Div => out.write_all(b"div"),
-        Alu::Divu => out.write_all(b"divu"),
-        Alu::Rem => out.write_all(b"rem"),
-        Alu::Remu => out.write_all(b"remu"),
+fn alu_name(operation: Alu) -> &'static str {
+    match operation {
+        Alu::Add => "add",
+        Alu::Sub => "sub",
+        Alu::Sll => "sll",
+        Alu::Slt => "slt",
+        Alu::Sltu => "sltu",
+        Alu::Xor => "xor",
+        Alu::Srl => "srl",
+        Alu::Sra => "sra",
+        Alu::Or => "or",
+        Alu::And => "and",
+        Alu::Mul => "mul",
+        Alu::Mulh => "mulh",
+        Alu::Mulhsu => "mulhsu",
+        Alu::Mulhu => "mulhu",
+        Alu::Div => "div",
+        Alu::Divu => "divu",
+        Alu::Rem => "rem",
+        Alu::Remu => "remu",
     }
 }
 
-fn say_cond(out: &mut impl Write, c: Cond) -> io::Result<()> {
-    match c {
-        Cond::Eq => out.write_all(b"beq"),
-        Cond::Ne => out.write_all(b"bne"),
-        Cond::Lt => out.write_all(b"blt"),
-        Cond::Ge => out.write_all(b"bge"),
-        Cond::Ltu => out.write_all(b"bltu"),
-        Cond::Geu => out.write_all(b"bgeu"),
+fn branch_name(condition: Cond) -> &'static str {
+    match condition {
+        Cond::Eq => "beq",
+        Cond::Ne => "bne",
+        Cond::Lt => "blt",
+        Cond::Ge => "bge",
+        Cond::Ltu => "bltu",
+        Cond::Geu => "bgeu",
     }
 }
 
-fn say_width(out: &mut impl Write, s: Width) -> io::Result<()> {
-    match s {
-        Width::Byte => out.write_all(b"b"),
-        Width::Half => out.write_all(b"h"),
-        Width::Word => out.write_all(b"w"),
-        Width::ByteU => out.write_all(b"bu"),
-        Width::HalfU => out.write_all(b"hu"),
+fn width_name(width: Width) -> &'static str {
+    match width {
+        Width::Byte => "b",
+        Width::Half => "h",
+        Width::Word => "w",
+        Width::ByteU => "bu",
+        Width::HalfU => "hu",
     }
 }
 
-// The instruction, fields in the order rd, rs1, rs2, immediate.
-pub fn say_instr(out: &mut impl Write, i: Instr) -> io::Result<()> {
-    match i {
-        Instr::Lui(d, imm) => two(out, b"lui", d, imm),
-        Instr::Auipc(d, imm) => two(out, b"auipc", d, imm),
-        Instr::Jal(d, imm) => two(out, b"jal", d, imm),
-        Instr::Jalr(d, a, imm) => three(out, b"jalr", d, a, imm),
-        Instr::Branch(c, a, b, imm) => {
-            say_cond(out, c)?;
-            three(out, b"", a, b, imm)
+impl fmt::Display for Named {
+    fn fmt<W: fmt::Write>(&self, f: &mut fmt::Formatter<W>) -> fmt::Result {
+        match self.0 {
+            Instr::Lui(d, imm) => write!(f, "lui {d:x} {imm:x}"),
+            Instr::Auipc(d, imm) => write!(f, "auipc {d:x} {imm:x}"),
+            Instr::Jal(d, imm) => write!(f, "jal {d:x} {imm:x}"),
+            Instr::Jalr(d, a, imm) => write!(f, "jalr {d:x} {a:x} {imm:x}"),
+            Instr::Branch(c, a, b, imm) => write!(f, "{} {a:x} {b:x} {imm:x}", branch_name(c)),
+            Instr::Load(w, d, a, imm) => write!(f, "l{} {d:x} {a:x} {imm:x}", width_name(w)),
+            Instr::Store(w, a, b, imm) => write!(f, "s{} {a:x} {b:x} {imm:x}", width_name(w)),
+            Instr::OpImm(o, d, a, imm) => write!(f, "{}i {d:x} {a:x} {imm:x}", alu_name(o)),
+            Instr::Shift(o, d, a, b) => write!(f, "{}i {d:x} {a:x} {b:x}", alu_name(o)),
+            Instr::Op(o, d, a, b) => write!(f, "{} {d:x} {a:x} {b:x}", alu_name(o)),
+            Instr::Fence(d, a, imm) => write!(f, "fence {d:x} {a:x} {imm:x}"),
+            Instr::Ecall => write!(f, "ecall 0 0"),
+            Instr::Ebreak => write!(f, "ebreak 0 0"),
+            Instr::Unknown => write!(f, "unknown 0 0"),
         }
-        Instr::Load(s, d, a, imm) => {
-            out.write_all(b"l")?;
-            say_width(out, s)?;
-            three(out, b"", d, a, imm)
-        }
-        Instr::Store(s, a, b, imm) => {
-            out.write_all(b"s")?;
-            say_width(out, s)?;
-            three(out, b"", a, b, imm)
-        }
-        Instr::OpImm(o, d, a, imm) => {
-            say_alu(out, o)?;
-            three(out, b"i", d, a, imm)
-        }
-        Instr::Shift(o, d, a, b) => {
-            say_alu(out, o)?;
-            three(out, b"i", d, a, b)
-        }
-        Instr::Op(o, d, a, b) => {
-            say_alu(out, o)?;
-            three(out, b"", d, a, b)
-        }
-        Instr::Fence(d, a, imm) => three(out, b"fence", d, a, imm),
-        Instr::Ecall => two(out, b"ecall", 0, 0),
-        Instr::Ebreak => two(out, b"ebreak", 0, 0),
-        Instr::Unknown => two(out, b"unknown", 0, 0),
     }
 }

@@ -1,63 +1,58 @@
 // `doorlang build`: the image of a text.
-use crate::output::{about, tell};
-use crate::{files, output, rooms, texts};
-use console::arguments;
-use toolchain::compile::Compiled;
+use crate::output::{Status, Told, about, tell, written};
+use crate::{files, rooms, texts};
+use console::arguments::Given;
+use console::lent::filled;
+use toolchain::Refusal;
+use toolchain::work::{CORE_ROOM, STARTS_ROOM, TOKENS_ROOM, TREE_ROOM};
 
-// The image, of so many bytes, written; then the lines.
-fn built(rt: &HostRuntime, given: &[usize], size: usize, image: &[u8]) -> u32 {
-    let n = texts::at_most(size, image.len());
-    let i = arguments::given_for(given, arguments::SECOND);
-    if !files::write_file(rt, i, &image[..n]) {
-        return output::BAD_USAGE;
-    }
-    output::line(rt, b"answer: ", 0);
-    if output::line(rt, b"words: ", (n / 4) as u64) {
-        about(rt, arguments::given_for(given, arguments::FIRST));
-        tell(rt, b"the image is written\n");
-        return output::DONE;
-    }
-    output::unwritten(rt)
+// The image written; then the lines.
+fn built(rt: &HostRuntime, given: Given, image: &[u8]) -> Result<Status, Told> {
+    files::write_file(rt, files::wanted(given.second)?, image)?;
+    let words = image.len() / 4;
+    let _ = println!(rt; "answer: 0");
+    written(rt, println!(rt; "words: {words}"))?;
+    about(rt, given.first);
+    tell(rt, "the image is written\n");
+    Ok(Status::Done)
 }
 
 // What `compile` answers, with the image in its buffer; working room is free again afterwards.
-pub fn image_of(text: &[u8], image: &mut [u8]) -> Compiled {
-    let mut tokens = rooms::tokens_room();
-    let mut tree = rooms::tree_room();
-    let mut starts = rooms::starts_room();
-    let mut core = rooms::core_room();
+pub fn image_of(text: &[u8], image: &mut [u8]) -> Result<usize, Refusal> {
+    let mut tokens = filled::<u32, TOKENS_ROOM>(0);
+    let mut tree = filled::<u32, TREE_ROOM>(0);
+    let mut starts = filled::<u32, STARTS_ROOM>(0);
+    let mut core = filled::<u32, CORE_ROOM>(0);
     toolchain::compile::compile(text, image, &mut tokens, &mut tree, &mut starts, &mut core)
 }
 
-fn compile(rt: &HostRuntime, given: &[usize], text: &[u8]) -> u32 {
-    let mut image = rooms::image_room();
-    let c = image_of(text, &mut image);
-    match c {
-        Compiled::Refused(number, offset) => texts::refused(rt, given, text, number, offset, 0),
-        Compiled::Image(n) => built(rt, given, n, &image),
+fn compile(rt: &HostRuntime, given: Given, text: &[u8]) -> Result<Status, Told> {
+    let mut image = filled::<u8, { rooms::IMAGE }>(0);
+    match image_of(text, &mut image) {
+        Err(refusal) => texts::refused(rt, given, text, refusal, 0),
+        Ok(size) => {
+            let n = size.min(image.len());
+            built(rt, given, &image[..n])
+        }
     }
 }
 
-// Whether the image would be written over its text, by their names.
-fn over_itself(rt: &HostRuntime, given: &[usize]) -> bool {
-    let i = arguments::given_for(given, arguments::SECOND);
-    if files::is_same(rt, arguments::given_for(given, arguments::FIRST), i) {
-        about(rt, i);
-        tell(rt, b"the image would replace its text\n");
-        return true;
+// Refused where the image would be written over its text, by their names.
+fn not_over_itself(rt: &HostRuntime, given: Given) -> Result<(), Told> {
+    let (Some(text), Some(image)) = (given.first, given.second) else {
+        return Ok(());
+    };
+    if files::is_same(rt, text, image) {
+        about(rt, given.second);
+        tell(rt, "the image would replace its text\n");
+        return Err(Told);
     }
-    false
+    Ok(())
 }
 
-pub fn build(rt: &HostRuntime, given: &[usize]) -> u32 {
-    if over_itself(rt, given) {
-        return output::BAD_USAGE;
-    }
-    let mut text = rooms::text_room();
-    let t = files::read_file(rt, arguments::given_for(given, arguments::FIRST), &mut text);
-    if t.failed {
-        return output::BAD_USAGE;
-    }
-    let n = t.size;
+pub fn build(rt: &HostRuntime, given: Given) -> Result<Status, Told> {
+    not_over_itself(rt, given)?;
+    let mut text = filled::<u8, { rooms::TEXT }>(0);
+    let n = files::read_file(rt, files::wanted(given.first)?, &mut text)?;
     compile(rt, given, &text[..n])
 }

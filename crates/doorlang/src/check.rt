@@ -1,31 +1,21 @@
 // `doorlang check`: the answer to a text.
-use crate::output::{about, tell};
-use crate::{files, output, rooms, texts};
-use console::arguments;
+use crate::output::{Status, Told, about, tell, written};
+use crate::{files, rooms, texts};
+use console::arguments::Given;
+use console::lent::filled;
 
-fn answer(rt: &HostRuntime, given: &[usize], text: &[u8]) -> u32 {
-    let mut tokens = rooms::tokens_room();
-    let mut tree = rooms::tree_room();
-    let mut starts = rooms::starts_room();
-    let mut core = rooms::core_room();
-    let a = toolchain::check::check(text, &mut tokens, &mut tree, &mut starts, &mut core);
-    if a.number != 0 {
-        return texts::refused(rt, given, text, a.number, a.place, 0);
+fn answer(rt: &HostRuntime, given: Given, text: &[u8]) -> Result<Status, Told> {
+    if let Err(refusal) = texts::elements(text) {
+        return texts::refused(rt, given, text, refusal, 0);
     }
-    if output::line(rt, b"answer: ", 0) {
-        about(rt, arguments::given_for(given, arguments::FIRST));
-        tell(rt, b"accepted\n");
-        return output::DONE;
-    }
-    output::unwritten(rt)
+    written(rt, println!(rt; "answer: 0"))?;
+    about(rt, given.first);
+    tell(rt, "accepted\n");
+    Ok(Status::Done)
 }
 
-pub fn check(rt: &HostRuntime, given: &[usize]) -> u32 {
-    let mut text = rooms::text_room();
-    let t = files::read_file(rt, arguments::given_for(given, arguments::FIRST), &mut text);
-    if t.failed {
-        return output::BAD_USAGE;
-    }
-    let n = t.size;
+pub fn check(rt: &HostRuntime, given: Given) -> Result<Status, Told> {
+    let mut text = filled::<u8, { rooms::TEXT }>(0);
+    let n = files::read_file(rt, files::wanted(given.first)?, &mut text)?;
     answer(rt, given, &text[..n])
 }

@@ -1,18 +1,18 @@
 // `doorlang compare`: the run of a text beside the run of its image.
-ghost use Rattle.std.specs.Prelude.{◌≡◌, ◌≤◌, ◌/◌, length, take, drop};
+ghost use Rattle.std.specs.Prelude.{◌≡◌, ◌/◌, take, drop};
 ghost use Rattle.word.specs.Bytes.{words_of_bytes};
 ghost use Rattle.processor.specs.Machine.{data_start};
 ghost use Rattle.interpreter.specs.Post.{outcome_of};
 ghost use Rattle.codegen.specs.Costs.{costs};
 ghost use Rattle.agreement.specs.Agreement.{agrees_of, limit_of};
 
-use crate::output::{about, say, tell};
+use crate::output::{Status, Told, about, tell, written};
+use crate::values::Values;
 use crate::{build, exec, files, output, rooms, run, texts, values};
-use console::arguments;
-use emulator::run::Ended;
-use interpreter::{Outcome, Ran};
-use toolchain::compile::Compiled;
-use toolchain::interpret::Interpreted;
+use console::arguments::Given;
+use console::lent::filled;
+use console::shown::Stop;
+use interpreter::Outcome;
 
 // K and K0 of claim 3: machine steps for a unit of fuel, and besides.
 const STEPS_FOR_FUEL: u64 = 128;
@@ -31,201 +31,149 @@ fn limit_for(used: u64) -> u64
 }
 
 // Whether the runs agree, by how they ended and what they left; `size` is that of the input block.
-fn agrees(
-    r: Ran,
-    arrays: &[u32],
-    log: &[u32],
-    e: Ended,
-    memory: &[u8],
-    logged: &[u32],
-    size: usize,
-) -> bool
-    ensures { result ≡ agrees_of (outcome_of r.outcome) (take r.logged log.now) (take (size / 4) arrays.now) e.status (take e.logged logged.now) (words_of_bytes (take size (drop data_start memory.now))) }
+fn agrees(text: run::Left<'_>, image: exec::Left<'_>, size: usize) -> bool
+    ensures { result ≡ agrees_of (outcome_of text.entry.ran.outcome) (take text.entry.ran.logged text.entry.log.now) (take (size / 4) text.entry.arrays.now) image.entry.ended.status (take image.entry.ended.logged image.entry.log.now) (words_of_bytes (take size (drop data_start image.entry.memory.now))) }
 {
-    let o = r.outcome;
-    let s = e.status;
-    let l = texts::at_most(r.logged, log.len());
-    let a = texts::at_most(size / 4, arrays.len());
-    let k = texts::at_most(e.logged, logged.len());
-    let from = texts::at_most(output::arrays_start(), memory.len());
-    let to = from + texts::at_most(size, memory.len() - from);
+    let outcome = text.ran.outcome;
+    let stop = image.ended.status;
+    let l = text.ran.logged.min(text.log.len());
+    let a = (size / 4).min(text.arrays.len());
+    let k = image.ended.logged.min(image.log.len());
+    let from = output::arrays_start().min(image.memory.len());
+    let to = from + size.min(image.memory.len() - from);
     agreement::agree(
-        o,
-        &log[..l],
-        &arrays[..a],
-        s,
-        &logged[..k],
-        &memory[from..to],
+        outcome,
+        &text.log[..l],
+        &text.arrays[..a],
+        stop,
+        &image.log[..k],
+        &image.memory[from..to],
     )
 }
 
-// Whether it could be written that they agree, or that they do not.
-fn agree_line(rt: &HostRuntime, agree: bool) -> bool {
-    if agree {
-        say(rt, b"agree: yes\n")
-    } else {
-        say(rt, b"agree: no\n")
-    }
-}
-
 // What the image did, beside a run with this outcome: where the fuel ended first, they are compared as far as the run came.
-fn tell_agreement(rt: &HostRuntime, given: &[usize], o: Outcome, agree: bool) {
-    about(rt, arguments::given_for(given, arguments::FIRST));
-    if !agree {
-        tell(rt, b"the image does something else\n");
-        return;
-    }
-    match o {
-        Outcome::OutOfFuel => {
-            tell(rt, b"as far as the fuel went, the image logs the same\n");
-        }
-        Outcome::Finished => {
-            tell(rt, b"the image does the same\n");
-        }
-        Outcome::Trapped(_) => {
-            tell(rt, b"the image does the same\n");
-        }
+fn agreement_meaning(outcome: Outcome, agree: bool) -> &'static str {
+    match outcome {
+        _ if !agree => "the image does something else\n",
+        Outcome::OutOfFuel => "as far as the fuel went, the image logs the same\n",
+        Outcome::Finished | Outcome::Trapped(_) => "the image does the same\n",
     }
 }
 
 // The lines of both runs; `size` is that of the input block.
 fn show(
     rt: &HostRuntime,
-    given: &[usize],
-    r: Ran,
+    given: Given,
     fuel: u64,
     size: usize,
-    arrays: &[u32],
-    log: &[u32],
-    e: Ended,
-    memory: &[u8],
-    image_log: &[u32],
-) -> u32 {
-    let s = e.status;
-    let logged = e.logged;
-    run::lines(rt, r, fuel, size, arrays, log);
-    exec::stop_line(rt, b"image-stop:", s);
-    output::line(rt, b"image-steps: ", e.steps);
-    output::log_line(rt, b"image-log:", image_log, logged);
-    output::arrays_line(rt, b"image-arrays:", memory, size / 4);
-    let agree = agrees(r, arrays, log, e, memory, image_log, size);
-    if agree_line(rt, agree) {
-        let o = r.outcome;
-        run::tell_outcome(rt, given, o);
-        tell_agreement(rt, given, o, agree);
-        return if agree {
-            run::status_of(o)
-        } else {
-            output::STOPPED
-        };
-    }
-    output::unwritten(rt)
+    text: run::Left<'_>,
+    image: exec::Left<'_>,
+) -> Result<Status, Told> {
+    let stop = image.ended.status;
+    let steps = image.ended.steps;
+    let _ = run::lines(rt, text, fuel, size);
+    let _ = println!(rt; "image-stop: {}", Stop(stop));
+    let _ = println!(rt; "image-steps: {steps}");
+    let _ = output::log_line(rt, "image-log", image.log, image.ended.logged);
+    output::arrays_line(rt, "image-arrays", image.memory, size / 4);
+    let agree = agrees(text, image, size);
+    let answer = if agree { "yes" } else { "no" };
+    written(rt, println!(rt; "agree: {answer}"))?;
+    let outcome = text.ran.outcome;
+    run::tell_outcome(rt, given, outcome);
+    about(rt, given.first);
+    tell(rt, agreement_meaning(outcome, agree));
+    Ok(if agree {
+        run::status_of(outcome)
+    } else {
+        Status::Stopped
+    })
 }
 
 // The image's run, after that of its text.
 fn emulate(
     rt: &HostRuntime,
-    given: &[usize],
+    given: Given,
     image: &[u8],
     input: &[u8],
-    room: usize,
-    fuel: u64,
-    r: Ran,
-    arrays: &[u32],
-    log: &[u32],
-) -> u32 {
-    let mut memory = rooms::memory_room();
-    let mut registers = [0u32; 32];
-    let mut image_log = rooms::log_room();
-    let o = toolchain::emulate(
+    values: Values,
+    text: run::Left<'_>,
+) -> Result<Status, Told> {
+    let fuel = values.most;
+    let mut memory = filled::<u8, { rooms::MEMORY }>(0);
+    let mut registers = [0u32; rooms::REGISTERS];
+    let mut image_log = filled::<u32, { rooms::LOG }>(0);
+    let answered = toolchain::emulate(
         image,
         input,
         &mut memory,
         &mut registers,
         &mut image_log,
-        room,
-        limit_for(run::used(fuel, r.fuel)),
+        values.room,
+        limit_for(run::used(fuel, text.ran.fuel)),
     );
-    match o {
-        toolchain::Outcome::Refused(n) => exec::refused(rt, given, n),
-        toolchain::Outcome::Ran(e) => show(
-            rt,
-            given,
-            r,
-            fuel,
-            input.len(),
-            arrays,
-            log,
-            e,
-            &memory,
-            &image_log,
-        ),
+    match answered {
+        Err(refusal) => exec::refused(rt, given, refusal),
+        Ok(ended) => {
+            let left = exec::Left {
+                ended,
+                memory: &memory,
+                registers: &registers,
+                log: &image_log,
+            };
+            show(rt, given, fuel, input.len(), text, left)
+        }
     }
 }
 
 // The text's run, then its image's.
 fn interpret(
     rt: &HostRuntime,
-    given: &[usize],
+    given: Given,
     text: &[u8],
     image: &[u8],
     block: &[u8],
-    size: usize,
-    room: usize,
-    fuel: u64,
-) -> u32
-    requires { size ≤ length block.now }
-{
-    let mut arrays = rooms::arrays_room();
-    let mut log = rooms::log_room();
-    let a = run::answer_of(given, text, block, size, room, fuel, &mut arrays, &mut log);
-    let said = a.said;
-    let n = a.size;
-    match said {
-        Interpreted::Refused(number, offset) => texts::refused(rt, given, text, number, offset, n),
-        Interpreted::Ran(r) => emulate(rt, given, image, &block[..n], room, fuel, r, &arrays, &log),
+    values: Values,
+) -> Result<Status, Told> {
+    let mut arrays = filled::<u32, { rooms::ARRAYS }>(0);
+    let mut log = filled::<u32, { rooms::LOG }>(0);
+    match run::answer_of(text, block, values, &mut arrays, &mut log) {
+        Err(refusal) => texts::refused(rt, given, text, refusal, block.len()),
+        Ok(ran) => {
+            let left = run::Left {
+                ran,
+                arrays: &arrays,
+                log: &log,
+            };
+            emulate(rt, given, image, block, values, left)
+        }
     }
 }
 
 // The image, then both runs.
 fn go(
     rt: &HostRuntime,
-    given: &[usize],
+    given: Given,
     text: &[u8],
     block: &[u8],
-    size: usize,
-    room: usize,
-    fuel: u64,
-) -> u32
-    requires { size ≤ length block.now }
-{
-    let mut image = rooms::image_room();
-    let c = build::image_of(text, &mut image);
-    match c {
-        Compiled::Refused(number, offset) => texts::refused(rt, given, text, number, offset, 0),
-        Compiled::Image(n) => {
-            let k = texts::at_most(n, image.len());
-            interpret(rt, given, text, &image[..k], block, size, room, fuel)
+    values: Values,
+) -> Result<Status, Told> {
+    let mut image = filled::<u8, { rooms::IMAGE }>(0);
+    match build::image_of(text, &mut image) {
+        Err(refusal) => texts::refused(rt, given, text, refusal, 0),
+        Ok(size) => {
+            let n = size.min(image.len());
+            interpret(rt, given, text, &image[..n], block, values)
         }
     }
 }
 
-// The text and the input block, read; then the comparison.
-fn load(rt: &HostRuntime, given: &[usize], room: usize, fuel: u64) -> u32 {
-    let mut text = rooms::text_room();
-    let mut block = rooms::block_room();
-    let r = files::read_both(rt, given, &mut text, &mut block);
-    if r.failed {
-        return output::BAD_USAGE;
-    }
-    let n = r.first;
-    go(rt, given, &text[..n], &block, r.block, room, fuel)
-}
-
-pub fn compare(rt: &HostRuntime, given: &[usize]) -> u32 {
-    let v = values::values_of(rt, given, arguments::FUEL, values::FUEL);
-    if v.failed {
-        return output::BAD_USAGE;
-    }
-    load(rt, given, v.room, v.most)
+pub fn compare(rt: &HostRuntime, given: Given) -> Result<Status, Told> {
+    let values = Values::of_text(rt, given)?;
+    let mut text = filled::<u8, { rooms::TEXT }>(0);
+    let mut block = filled::<u8, { rooms::BLOCK }>(0);
+    let n = files::read_file(rt, files::wanted(given.first)?, &mut text)?;
+    let size = files::read_block(rt, given, &mut block)?;
+    let k = texts::block_size(size, &text[..n], block.len());
+    go(rt, given, &text[..n], &block[..k], values)
 }

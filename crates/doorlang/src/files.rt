@@ -1,23 +1,15 @@
 // Files by the arguments that name them. Where one cannot be read or written, a sentence says why.
-ghost use Rattle.std.specs.Prelude.{◌≤◌, length};
+ghost use Rattle.std.specs.Prelude.{◌≤◌, IfOk, IfSome, length};
 
-use crate::output::{argument, tell, tell_number};
+use crate::output::{Told, argument, tell, tell_bytes};
 use crate::rooms;
-use console::numbers::Reading;
+use console::arguments::Given;
+use console::lent::filled;
+use console::numbers::{Fault, Phase, Reading};
 use console::{arguments, numbers};
 use std::fs::File;
 use std::io::{Cursor, Read, Write};
 use std::{fs, io, str};
-
-// How many bytes stand at the start of a buffer, or that they could not be read.
-#[derive(Clone, Copy)]
-pub struct Got {
-    pub failed: bool,
-    pub size: usize,
-}
-
-// A further phase of the reading of an input text: its end is reached.
-const ENDED: u32 = 7;
 
 // The system's number of the error that a name is no text.
 const NO_TEXT: i32 = 84;
@@ -33,19 +25,19 @@ fn tell_error(rt: &HostRuntime, error: io::Error) {
     }
     let text = str::from_utf8(&bytes[..n]).unwrap_or("");
     match text.rsplit_once(" (os error ") {
-        Some((reason, _)) => tell(rt, reason.as_bytes()),
-        None => tell(rt, text.as_bytes()),
-    };
+        Some((reason, _)) => tell(rt, reason),
+        None => tell(rt, text),
+    }
 }
 
 // What cannot be done with a file, and why.
-fn cannot(rt: &HostRuntime, what: &[u8], path: &[u8], error: io::Error) {
-    tell(rt, b"doorlang: cannot ");
-    tell(rt, what);
-    tell(rt, path);
-    tell(rt, b": ");
+fn cannot(rt: &HostRuntime, what: &str, path: &[u8], error: io::Error) -> Told {
+    tell(rt, format_args!("doorlang: cannot {what} "));
+    tell_bytes(rt, path);
+    tell(rt, ": ");
     tell_error(rt, error);
-    tell(rt, b"\n");
+    tell(rt, "\n");
+    Told
 }
 
 // A file's name as text, which it has to be for the library.
@@ -64,7 +56,8 @@ fn write(rt: &HostRuntime, path: &[u8], bytes: &[u8]) -> io::Result<()> {
     fs::write(rt, name_of(path)?, bytes)
 }
 
-// Reads until the buffer is full, the file ends or a read fails: how many bytes stand at the buffer's start.
+// Reads until the buffer is full, the file ends or a read fails: how many bytes stand at the buffer's start. `read_to_end` would take a heap, and `read_exact`
+// fails at an end without saying how many there are.
 fn read_full(file: &mut File, buffer: &mut [u8]) -> usize
     ensures { result ≤ length buffer.new }
 {
@@ -79,94 +72,78 @@ fn read_full(file: &mut File, buffer: &mut [u8]) -> usize
     done
 }
 
-// The error of a further read, where it fails, which `read_full` does not tell from a file's end.
-fn failure(file: &mut File) -> Option<io::Error> {
+// Whether a further read fails, which `read_full` does not tell from a file's end.
+fn at_end(file: &mut File) -> io::Result<()> {
     let mut one = [0u8; 1];
-    file.read(&mut one).err()
+    file.read(&mut one)?;
+    Ok(())
 }
 
-// The bytes of the file that argument i names, as many as the buffer holds.
-pub fn read_file(rt: &HostRuntime, i: usize, buffer: &mut [u8]) -> Got
-    ensures { result.size ≤ length buffer.old }
+// The bytes of a file, as many as the buffer holds.
+fn bytes_in(rt: &HostRuntime, path: &[u8], buffer: &mut [u8]) -> io::Result<usize>
+    ensures { IfOk result (λ n. n ≤ length buffer.old) }
 {
-    let mut path = rooms::word_room();
-    let n = argument(rt, i, &mut path);
-    let mut file = match open(rt, &path[..n]) {
-        Ok(file) => file,
-        Err(error) => {
-            cannot(rt, b"read ", &path[..n], error);
-            return Got {
-                failed: true,
-                size: 0,
-            };
-        }
-    };
+    let mut file = open(rt, path)?;
     let size = read_full(&mut file, buffer);
-    match failure(&mut file) {
-        Some(error) => {
-            cannot(rt, b"read ", &path[..n], error);
-            Got { failed: true, size }
-        }
-        None => Got {
-            failed: false,
-            size,
-        },
+    at_end(&mut file)?;
+    Ok(size)
+}
+
+// The argument of a file that the command takes. `see_all` has refused a command that lacks one, and that is told: on no input is there none.
+pub fn wanted(file: Option<usize>) -> Result<usize, Told> {
+    match file {
+        Some(i) => Ok(i),
+        None => Err(Told),
     }
 }
 
-// A part of an input text more.
-fn read_part(file: &mut File, r: Reading, block: &mut [u8]) -> io::Result<Reading> {
-    let mut part = rooms::part_room();
-    let n = read_full(file, &mut part);
-    if n == 0 {
-        if let Some(error) = failure(file) {
-            return Err(error);
-        }
-        let s = numbers::blank_after(r, block);
-        if s.phase == numbers::BETWEEN {
-            return Ok(numbers::at(ENDED, 0, s));
-        }
-        return Ok(s);
-    }
-    Ok(numbers::read_bytes(&part[..n], r, block))
-}
-
-// An input text to its end, or to where it is at fault. Nothing says that a file ends, so the loop counts its turns down.
-fn read_text(file: &mut File, block: &mut [u8]) -> io::Result<Reading> {
-    let mut r = numbers::start();
-    let mut turns = u64::MAX;
-    while turns > 0 {
-        r = read_part(file, r, block)?;
-        if numbers::NEGATIVE < r.phase {
-            return Ok(r);
-        }
-        turns -= 1;
-    }
-    Ok(r)
-}
-
-// What is at fault in an input text.
-fn tell_fault(rt: &HostRuntime, path: &[u8], r: Reading) {
-    tell(rt, b"doorlang: ");
-    tell(rt, path);
-    if r.phase == numbers::TOO_MANY {
-        tell(rt, b": there are more numbers than the arrays can have\n");
-        return;
-    }
-    tell(rt, b": number ");
-    tell_number(rt, (r.count as u64) % 4294967296 + 1);
-    if r.phase == numbers::OUT_OF_RANGE {
-        tell(rt, b" is not between -2147483648 and 2147483647\n");
-    } else {
-        tell(rt, b" is not a decimal number\n");
-    }
-}
-
-// The bytes of so many words, within a block.
-fn bytes_of(count: usize, most: usize) -> usize
-    ensures { result ≤ most }
+// The bytes of the file that an argument names, as many as the buffer holds.
+pub fn read_file(rt: &HostRuntime, i: usize, buffer: &mut [u8]) -> Result<usize, Told>
+    ensures { IfOk result (λ n. n ≤ length buffer.old) }
 {
-    if count <= most / 4 { count * 4 } else { most }
+    let mut path = filled::<u8, { rooms::WORD }>(0);
+    let n = argument(rt, i, &mut path);
+    match bytes_in(rt, &path[..n], buffer) {
+        Ok(size) => Ok(size),
+        Err(error) => Err(cannot(rt, "read", &path[..n], error)),
+    }
+}
+
+// An input text to its end, or to where it is at fault. Nothing says that a file ends, so the turns are counted.
+fn read_text(file: &mut File, block: &mut [u8]) -> io::Result<Reading> {
+    let mut part = filled::<u8, { rooms::PART }>(0);
+    let mut reading = numbers::start();
+    for _ in 0..u64::MAX {
+        let n = read_full(file, &mut part);
+        if n == 0 {
+            at_end(file)?;
+            return Ok(numbers::blank_after(reading, block));
+        }
+        reading = numbers::read_bytes(&part[..n], reading, block);
+        if let Phase::Faulty(_) = reading.phase {
+            break;
+        }
+    }
+    Ok(reading)
+}
+
+// What is at fault in an input text, after so many numbers.
+fn tell_fault(rt: &HostRuntime, path: &[u8], fault: Fault, count: usize) -> Told {
+    tell(rt, "doorlang: ");
+    tell_bytes(rt, path);
+    let number = (count as u64) % 4294967296 + 1;
+    match fault {
+        Fault::TooMany => tell(rt, ": there are more numbers than the arrays can have\n"),
+        Fault::OutOfRange => tell(
+            rt,
+            format_args!(": number {number} is not between -2147483648 and 2147483647\n"),
+        ),
+        Fault::NoNumber => tell(
+            rt,
+            format_args!(": number {number} is not a decimal number\n"),
+        ),
+    }
+    Told
 }
 
 // The input text of this name, opened and read.
@@ -175,110 +152,53 @@ fn numbers_of(rt: &HostRuntime, path: &[u8], block: &mut [u8]) -> io::Result<Rea
     read_text(&mut file, block)
 }
 
-// The input block that the text of argument i has.
-pub fn read_numbers(rt: &HostRuntime, i: usize, block: &mut [u8]) -> Got
-    ensures { result.size ≤ length block.old }
+// The input block that the text of argument i has, in bytes.
+fn read_numbers(rt: &HostRuntime, i: usize, block: &mut [u8]) -> Result<usize, Told>
+    ensures { IfOk result (λ n. n ≤ length block.old) }
 {
-    let mut path = rooms::word_room();
+    let mut path = filled::<u8, { rooms::WORD }>(0);
     let n = argument(rt, i, &mut path);
-    let r = match numbers_of(rt, &path[..n], block) {
-        Ok(r) => r,
-        Err(error) => {
-            cannot(rt, b"read ", &path[..n], error);
-            return Got {
-                failed: true,
-                size: 0,
-            };
-        }
+    let reading = match numbers_of(rt, &path[..n], block) {
+        Ok(reading) => reading,
+        Err(error) => return Err(cannot(rt, "read", &path[..n], error)),
     };
-    let failed = r.phase != ENDED;
-    if failed {
-        tell_fault(rt, &path[..n], r);
-    }
-    Got {
-        failed,
-        size: bytes_of(r.count, block.len()),
+    match reading.phase {
+        Phase::Faulty(fault) => Err(tell_fault(rt, &path[..n], fault, reading.count)),
+        _ => Ok(reading.count.min(block.len() / 4) * 4),
     }
 }
 
-// The argument that names the input block's file; 0 for none.
-pub fn block_argument(given: &[usize]) -> usize {
-    let text = arguments::given_for(given, arguments::INPUT);
-    if text != 0 {
-        return text;
-    }
-    arguments::given_for(given, arguments::BLOCK)
-}
-
-// Whether an option gives an input block.
-pub fn has_block(given: &[usize]) -> bool {
-    block_argument(given) != 0
+// The argument that names the input block's file.
+pub fn block_argument(given: Given) -> Option<usize> {
+    given.input.or(given.block)
 }
 
 // Whether two arguments name a file in the same way.
 pub fn is_same(rt: &HostRuntime, i: usize, j: usize) -> bool {
-    let mut one = rooms::word_room();
-    let mut other = rooms::word_room();
+    let mut one = filled::<u8, { rooms::WORD }>(0);
+    let mut other = filled::<u8, { rooms::WORD }>(0);
     let n = argument(rt, i, &mut one);
     let k = argument(rt, j, &mut other);
-    arguments::is_spelt(&one[..n], &other[..k])
+    one[..n] == other[..k]
 }
 
-// The input block that --input or --block gives; with neither an empty one.
-pub fn read_block(rt: &HostRuntime, given: &[usize], block: &mut [u8]) -> Got
-    ensures { result.size ≤ length block.old }
+// The input block that --input or --block gives, in bytes; with neither there is none.
+pub fn read_block(rt: &HostRuntime, given: Given, block: &mut [u8]) -> Result<Option<usize>, Told>
+    ensures { IfOk result (λ k. IfSome k (λ n. n ≤ length block.old)) }
 {
-    let text = arguments::given_for(given, arguments::INPUT);
-    if text != 0 {
-        return read_numbers(rt, text, block);
-    }
-    let raw = arguments::given_for(given, arguments::BLOCK);
-    if raw != 0 {
-        return read_file(rt, raw, block);
-    }
-    Got {
-        failed: false,
-        size: 0,
+    match (given.input, given.block) {
+        (Some(text), _) => Ok(Some(read_numbers(rt, text, block)?)),
+        (None, Some(raw)) => Ok(Some(read_file(rt, raw, block)?)),
+        (None, None) => Ok(None),
     }
 }
 
-// How many bytes stand in the buffers of the first file and of the input block, or that they could not be read.
-#[derive(Clone, Copy)]
-pub struct Both {
-    pub failed: bool,
-    pub first: usize,
-    pub block: usize,
-}
-
-// The file that a command is about, and its input block.
-pub fn read_both(rt: &HostRuntime, given: &[usize], first: &mut [u8], block: &mut [u8]) -> Both
-    ensures { (result.first ≤ length first.old) × (result.block ≤ length block.old) }
-{
-    let f = read_file(rt, arguments::given_for(given, arguments::FIRST), first);
-    if f.failed {
-        return Both {
-            failed: true,
-            first: 0,
-            block: 0,
-        };
-    }
-    let b = read_block(rt, given, block);
-    Both {
-        failed: b.failed,
-        first: f.size,
-        block: b.size,
-    }
-}
-
-// Writes the file that argument i names: whether it could.
-pub fn write_file(rt: &HostRuntime, i: usize, bytes: &[u8]) -> bool {
-    let mut path = rooms::word_room();
+// Writes the file that argument i names.
+pub fn write_file(rt: &HostRuntime, i: usize, bytes: &[u8]) -> Result<(), Told> {
+    let mut path = filled::<u8, { rooms::WORD }>(0);
     let n = argument(rt, i, &mut path);
     match write(rt, &path[..n], bytes) {
-        Ok(()) => true,
-        Err(error) => {
-            cannot(rt, b"write ", &path[..n], error);
-            false
-        }
+        Ok(()) => Ok(()),
+        Err(error) => Err(cannot(rt, "write", &path[..n], error)),
     }
 }

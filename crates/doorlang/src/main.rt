@@ -1,11 +1,12 @@
 // The command-line program: files and arguments around the tool chain's entries.
 #![tactic(auto)]
 
-ghost use Rattle.std.specs.Prelude.{◌<◌, ◌≤◌, ◌^◌, length};
+ghost use Rattle.std.specs.Prelude.{◌<◌, ◌^◌, length};
 
 use console::arguments;
-use console::arguments::{Command, Seen};
-use output::{argument, tell};
+use console::arguments::{Command, Problem, Word, Wrong};
+use console::lent::filled;
+use output::{Status, Told, argument, tell, tell_argument};
 use std::env::FillError;
 use std::process::ExitCode;
 use std::rt::Env;
@@ -25,34 +26,71 @@ mod values; // the numbers that options give
 // The most arguments: more than any command takes.
 const MOST_ARGUMENTS: usize = 24;
 
-// A sentence about argument i, and how the program is used.
-fn bad_usage(rt: &HostRuntime, about: &[u8], i: usize) -> u32 {
-    tell(rt, b"doorlang: ");
-    tell(rt, about);
-    if 0 < i {
-        tell(rt, b": ");
-        output::tell_argument(rt, i);
+// A sentence about an argument, and how the program is used.
+fn bad_usage(rt: &HostRuntime, about: &str, argument: Option<usize>) -> Told {
+    tell(rt, format_args!("doorlang: {about}"));
+    if let Some(i) = argument {
+        tell(rt, ": ");
+        tell_argument(rt, i);
     }
-    tell(rt, b"\n\n");
-    help::usage(&rt.stderr());
-    output::BAD_USAGE
+    tell(rt, "\n\n");
+    let _ = help::usage(&rt.stderr());
+    Told
 }
 
 // What is wrong with the arguments.
-fn wrong(rt: &HostRuntime, s: Seen) -> u32 {
-    let at = s.at;
-    let problem = s.problem;
-    match problem {
-        arguments::NOT_TAKEN => bad_usage(rt, b"this command takes no such option", at),
-        arguments::TWICE => bad_usage(rt, b"an option is given twice", at),
-        arguments::NO_VALUE => bad_usage(rt, b"an option has no value", at),
-        arguments::TOO_MANY_FILES => bad_usage(rt, b"a file more than this command takes", at),
-        arguments::NO_FILE => bad_usage(rt, b"the command lacks a file", 1),
-        _ => bad_usage(rt, b"--input and --block exclude each other", 0),
+fn tell_wrong(rt: &HostRuntime, wrong: Wrong) -> Told {
+    let at = Some(wrong.at);
+    match wrong.problem {
+        Problem::NotTaken => bad_usage(rt, "this command takes no such option", at),
+        Problem::Twice => bad_usage(rt, "an option is given twice", at),
+        Problem::NoValue => bad_usage(rt, "an option has no value", at),
+        Problem::TooManyFiles => bad_usage(rt, "a file more than this command takes", at),
+        Problem::NoFile => bad_usage(rt, "the command lacks a file", Some(1)),
+        Problem::InputAndBlock => bad_usage(rt, "--input and --block exclude each other", None),
     }
 }
 
-fn perform(rt: &HostRuntime, command: Command, given: &[usize]) -> u32 {
+fn command_of(rt: &HostRuntime) -> Option<Command> {
+    let mut word = filled::<u8, { rooms::WORD }>(0);
+    let n = argument(rt, 1, &mut word);
+    arguments::command_of(&word[..n])
+}
+
+// What argument i is, if it is there and no longer than a file's name may be.
+fn word_of(rt: &HostRuntime, i: usize) -> Option<Word> {
+    let mut word = filled::<u8, { rooms::WORD }>(0);
+    match rt.arg(i, &mut word) {
+        Ok(n) => Some(arguments::word_of(&word[..n])),
+        Err(_) => None,
+    }
+}
+
+// The arguments after the command, put into the table.
+fn read_words(rt: &HostRuntime, words: &mut [Word]) -> Result<(), Told>
+    requires { length words.old < 2 ^ 32 }
+{
+    for (i, place) in words.iter_mut().enumerate() {
+        match word_of(rt, i + 2) {
+            Some(word) => *place = word,
+            None => return Err(bad_usage(rt, "an argument is longer than 4096 bytes", None)),
+        }
+    }
+    Ok(())
+}
+
+// The command, with arguments after it, for which there is this table.
+fn command(rt: &HostRuntime, words: &mut [Word]) -> Result<Status, Told>
+    requires { length words.old < 2 ^ 32 }
+{
+    let Some(command) = command_of(rt) else {
+        return Err(bad_usage(rt, "there is no such command", Some(1)));
+    };
+    read_words(rt, words)?;
+    let given = match arguments::see_all(command, words) {
+        Ok(given) => given,
+        Err(wrong) => return Err(tell_wrong(rt, wrong)),
+    };
     match command {
         Command::Help => help::help(rt),
         Command::Check => check::check(rt, given),
@@ -60,79 +98,13 @@ fn perform(rt: &HostRuntime, command: Command, given: &[usize]) -> u32 {
         Command::Build => build::build(rt, given),
         Command::Exec => exec::exec(rt, given),
         Command::Compare => compare::compare(rt, given),
-        Command::Other => output::BAD_USAGE,
     }
-}
-
-// The place of argument i by its name.
-fn place_of(rt: &HostRuntime, i: usize) -> usize {
-    let mut word = rooms::word_room();
-    let n = argument(rt, i, &mut word);
-    arguments::place_of(&word[..n])
-}
-
-// Whether argument i is there, and no longer than a file's name may be.
-fn whole(rt: &HostRuntime, i: usize) -> bool {
-    let mut word = rooms::word_room();
-    rt.arg(i, &mut word).is_ok()
-}
-
-// Puts the places of the arguments after the command into the table; the first argument that is too long, 0 for none.
-fn places(rt: &HostRuntime, count: usize, table: &mut [usize]) -> usize {
-    let mut i: usize = 0;
-    while i < table.len() {
-        if i < count {
-            if !whole(rt, i + 2) {
-                return i + 2;
-            }
-        }
-        table[i] = place_of(rt, i + 2);
-        i += 1;
-    }
-    0
-}
-
-fn command_of(rt: &HostRuntime) -> Command {
-    let mut word = rooms::word_room();
-    let n = argument(rt, 1, &mut word);
-    arguments::command_of(&word[..n])
-}
-
-// The command, with `count` arguments after it.
-fn command(rt: &HostRuntime, count: usize, table: &mut [usize], given: &mut [usize]) -> u32
-    requires { (count ≤ length table.old) × (length table.old < 2 ^ 32) }
-{
-    let c = command_of(rt);
-    match c {
-        Command::Other => {
-            return bad_usage(rt, b"there is no such command", 1);
-        }
-        Command::Help => (),
-        Command::Check => (),
-        Command::Run => (),
-        Command::Build => (),
-        Command::Exec => (),
-        Command::Compare => (),
-    }
-    let long = places(rt, count, table);
-    if long != 0 {
-        return bad_usage(rt, b"an argument is longer than 4096 bytes", 0);
-    }
-    let s = arguments::see_all(c, &table[..count], given);
-    if s.problem != arguments::NOTHING {
-        return wrong(rt, s);
-    }
-    perform(rt, c, given)
 }
 
 // Whether there is an argument i.
 fn is_given(rt: &HostRuntime, i: usize) -> bool {
     let mut byte = [0u8; 1];
-    match rt.arg(i, &mut byte) {
-        Ok(_) => true,
-        Err(FillError::TooLong) => true,
-        Err(FillError::NotPresent) => false,
-    }
+    !matches!(rt.arg(i, &mut byte), Err(FillError::NotPresent))
 }
 
 // How many arguments there are, with the program's name; of more than any command takes, one more than that.
@@ -145,19 +117,18 @@ fn argument_count(rt: &HostRuntime) -> usize {
     MOST_ARGUMENTS + 3
 }
 
-fn start(rt: &HostRuntime) -> u32 {
-    let mut table = [0usize; MOST_ARGUMENTS];
-    let mut given = [0usize; arguments::PLACES];
+fn start(rt: &HostRuntime) -> Result<Status, Told> {
+    let mut words = [Word::Other; MOST_ARGUMENTS];
     let n = argument_count(rt);
     if n < 2 {
-        return bad_usage(rt, b"there is no command", 0);
+        return Err(bad_usage(rt, "there is no command", None));
     }
     if MOST_ARGUMENTS < n - 2 {
-        return bad_usage(rt, b"there are more arguments than any command takes", 0);
+        return Err(bad_usage(rt, "there are more arguments than any command takes", None));
     }
-    command(rt, n - 2, &mut table, &mut given)
+    command(rt, &mut words[..n - 2])
 }
 
 fn main(rt: HostRuntime) -> ExitCode {
-    output::report(start(&rt))
+    ExitCode::from(start(&rt).unwrap_or(Status::BadUsage))
 }

@@ -3,46 +3,45 @@ ghost use Rattle.std.specs.Prelude.{◌≡◌, ◌≤◌, length};
 ghost use Rattle.processor.specs.Machine.{data_start};
 
 use crate::rooms;
+use console::lent::filled;
 use console::shown;
+use std::fmt::Display;
+use std::io;
+use std::io::Write;
 use std::process::ExitCode;
 use std::rt::Env;
-use word::bytes::word_of;
 
-// The exit statuses.
-pub const DONE: u32 = 0;
-
-pub const REFUSED: u32 = 1;
-
-pub const STOPPED: u32 = 2;
-
-pub const BAD_USAGE: u32 = 64;
-
-// Writes bytes: whether it could.
-pub fn put<P: Print>(to: &P, bytes: &[u8]) -> bool {
-    to.write_all(bytes).is_ok()
+// How the program ends.
+#[derive(Clone, Copy)]
+pub enum Status {
+    Done = 0,
+    Refused = 1,
+    Stopped = 2,
+    BadUsage = 64,
 }
 
-pub fn say(rt: &HostRuntime, text: &[u8]) -> bool {
-    put(rt, text)
+impl From<Status> for ExitCode {
+    fn from(status: Status) -> ExitCode {
+        ExitCode::from(status as u8)
+    }
 }
 
-pub fn tell(rt: &HostRuntime, text: &[u8]) -> bool {
-    put(&rt.stderr(), text)
+// The error that a sentence has told of already: a bad usage, or a file or standard output that cannot be read or written.
+#[derive(Clone, Copy)]
+pub struct Told;
+
+// Says on standard error. Where that cannot be written, nothing is left to say it on.
+pub fn tell<T: Display + Drop>(rt: &HostRuntime, what: T) {
+    let _ = rt.eprint(what);
 }
 
-pub fn tell_number(rt: &HostRuntime, n: u64) -> bool {
-    rt.eprint(n).is_ok()
+// The same of bytes, which need be no text.
+pub fn tell_bytes(rt: &HostRuntime, bytes: &[u8]) {
+    let _ = rt.stderr().write_all(bytes);
 }
 
-pub fn report(status: u32) -> ExitCode {
-    ExitCode::from((status & 0xff) as u8)
-}
-
-fn end_line(rt: &HostRuntime) -> bool {
-    say(rt, b"\n")
-}
-
-// Puts argument i at the start of a buffer: how many bytes it has; 0 where it is missing or longer than the buffer.
+// Puts argument i at the start of a buffer: how many bytes it has. One that is missing or longer than the buffer reads as one of no byte, and so as no file's name,
+// no number and no command: with `None` each of the callers would say that again.
 pub fn argument(rt: &HostRuntime, i: usize, buffer: &mut [u8]) -> usize
     ensures { result ≤ length buffer.new }
 {
@@ -51,74 +50,45 @@ pub fn argument(rt: &HostRuntime, i: usize, buffer: &mut [u8]) -> usize
 
 // An argument, for people.
 pub fn tell_argument(rt: &HostRuntime, i: usize) {
-    let mut room = rooms::word_room();
+    let mut room = filled::<u8, { rooms::WORD }>(0);
     let n = argument(rt, i, &mut room);
-    tell(rt, &room[..n]);
+    tell_bytes(rt, &room[..n]);
 }
 
 // The start of a sentence about the file that an argument names.
-pub fn about(rt: &HostRuntime, i: usize) {
-    tell(rt, b"doorlang: ");
-    tell_argument(rt, i);
-    tell(rt, b": ");
+pub fn about(rt: &HostRuntime, file: Option<usize>) {
+    tell(rt, "doorlang: ");
+    if let Some(i) = file {
+        tell_argument(rt, i);
+    }
+    tell(rt, ": ");
 }
 
-pub fn say_number(rt: &HostRuntime, n: u64) -> bool {
-    rt.print(n).is_ok()
-}
-
-// A line whose value is a number: whether it could be written.
-pub fn line(rt: &HostRuntime, key: &[u8], n: u64) -> bool {
-    say(rt, key);
-    say_number(rt, n);
-    say(rt, b"\n")
-}
-
-// What is said and answered where standard output cannot be written.
-pub fn unwritten(rt: &HostRuntime) -> u32 {
-    tell(rt, b"doorlang: cannot write to standard output\n");
-    BAD_USAGE
-}
-
-// A word in hex, with all its digits.
-fn say_hex(rt: &HostRuntime, w: u32) {
-    let _ = rt.print(format_args!(" 0x{w:08x}"));
+// Of the last line of an answer: where it could not be written, that is said.
+pub fn written(rt: &HostRuntime, line: io::Result<()>) -> Result<(), Told> {
+    match line {
+        Ok(()) => Ok(()),
+        Err(_) => {
+            tell(rt, "doorlang: cannot write to standard output\n");
+            Err(Told)
+        }
+    }
 }
 
 // A word in signed decimal, after a blank.
-fn say_signed(rt: &HostRuntime, w: u32) {
+fn say_signed(rt: &HostRuntime, word: u32) {
     let mut text = shown::room();
-    let n = shown::show(w, &mut text);
-    say(rt, &text[..n]);
+    let n = shown::show(word, &mut text);
+    let _ = io::writer(rt).write_all(&text[..n]);
 }
 
-pub fn pc_line(rt: &HostRuntime, key: &[u8], pc: u32) {
-    say(rt, key);
-    say_hex(rt, pc);
-    say(rt, b"\n");
-}
-
-// So many words of a log: whether the line could be written.
-pub fn log_line(rt: &HostRuntime, key: &[u8], log: &[u32], count: usize) -> bool {
-    say(rt, key);
-    let mut i: usize = 0;
-    while i < count {
-        if i < log.len() {
-            say_signed(rt, log[i]);
-        }
-        i += 1;
+// A line with so many words of a log.
+pub fn log_line(rt: &HostRuntime, key: &str, log: &[u32], count: usize) -> io::Result<()> {
+    let _ = print!(rt; "{key}:");
+    for word in log.iter().take(count) {
+        say_signed(rt, *word);
     }
-    end_line(rt)
-}
-
-// The word at this byte of memory; 0 past its end.
-fn memory_word(memory: &[u8], at: usize) -> u32 {
-    if at < memory.len() {
-        if 4 <= memory.len() - at {
-            return word_of(memory[at], memory[at + 1], memory[at + 2], memory[at + 3]);
-        }
-    }
-    0
+    println!(rt; "")
 }
 
 // Where the input block lies in memory: named, so that a part of it is proved with no count up to it.
@@ -128,28 +98,21 @@ pub fn arrays_start() -> usize
     0x100000
 }
 
-// So many words of the arrays, in memory.
-pub fn arrays_line(rt: &HostRuntime, key: &[u8], memory: &[u8], count: usize) {
-    say(rt, key);
-    let mut at = arrays_start();
-    let mut i: usize = 0;
-    while i < count {
-        if at < memory.len() {
-            say_signed(rt, memory_word(memory, at));
-            at += 4;
-        }
-        i += 1;
+// A line with so many words of the arrays, in memory.
+pub fn arrays_line(rt: &HostRuntime, key: &str, memory: &[u8], count: usize) {
+    let _ = print!(rt; "{key}:");
+    let (words, _) = memory.as_chunks::<4>();
+    for word in words.iter().skip(arrays_start() / 4).take(count) {
+        say_signed(rt, u32::from_le_bytes(*word));
     }
-    end_line(rt);
+    let _ = println!(rt; "");
 }
 
-// The registers, which is the last line: whether it could be written.
-pub fn registers_line(rt: &HostRuntime, key: &[u8], registers: &[u32]) -> bool {
-    say(rt, key);
-    let mut i: usize = 0;
-    while i < registers.len() {
-        say_hex(rt, registers[i]);
-        i += 1;
+// A line with the registers.
+pub fn registers_line(rt: &HostRuntime, registers: &[u32]) -> io::Result<()> {
+    let _ = print!(rt; "registers:");
+    for register in registers {
+        let _ = print!(rt; " 0x{register:08x}");
     }
-    end_line(rt)
+    println!(rt; "")
 }

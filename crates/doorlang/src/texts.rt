@@ -1,150 +1,109 @@
 // A rule program's text: how large its input block is, and what a refusal of it says.
-ghost use Rattle.std.specs.Prelude.{◌≡◌, ◌≤◌, min};
+ghost use Rattle.std.specs.Prelude.{◌≤◌};
 
-use crate::output::{tell, tell_argument, tell_number};
+use crate::output::{Status, Told, tell, tell_argument, written};
 use crate::{files, output};
-use console::{arguments, place};
+use console::arguments::Given;
+use console::lent::filled;
+use console::place;
+use toolchain::Refusal;
+use toolchain::work::{CORE_ROOM, STARTS_ROOM, TOKENS_ROOM, TREE_ROOM};
 
-// A number, or the most that there is.
-pub fn at_most(n: usize, most: usize) -> usize
-    ensures { result ≡ min n most }
-{
-    if n < most { n } else { most }
-}
+// The most bytes that a text has.
+const MOST_TEXT: usize = 65536;
 
 // The line and the column of a byte.
 fn tell_place(rt: &HostRuntime, text: &[u8], offset: usize) {
-    if text.len() < 65538 {
-        let n = at_most(offset, text.len());
+    if text.len() <= MOST_TEXT + 1 {
+        let n = offset.min(text.len());
         let p = place::place_after(&text[..n]);
-        tell(rt, b":");
-        tell_number(rt, p.line as u64);
-        tell(rt, b":");
-        tell_number(rt, p.column as u64);
+        let line = p.line;
+        let column = p.column;
+        tell(rt, format_args!(":{line}:{column}"));
     }
 }
 
-// Why a text of so many bytes cannot be read.
-fn tell_unreadable(rt: &HostRuntime, size: usize, offset: usize) {
-    if 65536 < size {
-        tell(rt, b": the text is longer than 65536 bytes\n");
-    } else if offset == size {
-        tell(rt, b": the text ends too soon\n");
-    } else {
-        tell(rt, b": this cannot be read\n");
-    }
-}
-
-// Which rule a text of so many bytes breaks, as far as the place tells: only the lack of `main` is at its end.
-fn tell_broken(rt: &HostRuntime, size: usize, offset: usize) {
-    if offset == size {
-        tell(rt, b": there is no function main\n");
-    } else {
-        tell(
-            rt,
-            b": a rule of names, types, calls, returns or sizes is broken here\n",
-        );
-    }
-}
-
-// What an answer means (document 01 §1, document 03 §5).
-fn tell_answer(rt: &HostRuntime, number: u32, size: usize, offset: usize) {
-    match number {
-        1 => tell_unreadable(rt, size, offset),
-        2 => tell_broken(rt, size, offset),
-        3 => {
-            tell(rt, b": the image does not fit into 524288 bytes\n");
-        }
-        _ => {
-            tell(rt, b": the room that was lent is too short\n");
-        }
+// What a refusal of a text means (document 01 §1, document 03 §5): why it cannot be read, or which rule it breaks, as far as the place tells, where only the
+// lack of `main` is at its end; or what was too short.
+fn meaning(refusal: Refusal, size: usize) -> &'static str {
+    match refusal {
+        Refusal::Unreadable(_) if MOST_TEXT < size => "the text is longer than 65536 bytes",
+        Refusal::Unreadable(at) if at == size => "the text ends too soon",
+        Refusal::Unreadable(_) => "this cannot be read",
+        Refusal::Broken(at) if at == size => "there is no function main",
+        Refusal::Broken(_) => "a rule of names, types, calls, returns or sizes is broken here",
+        Refusal::TooLong => "the image does not fit into 524288 bytes",
+        Refusal::Code | Refusal::Input | Refusal::Room => "the room that was lent is too short",
     }
 }
 
 // What is wrong with an input block of so many bytes: answer 5.
-fn tell_block(rt: &HostRuntime, given: &[usize], size: usize) {
+fn tell_block(rt: &HostRuntime, given: Given, size: usize) {
     output::about(rt, files::block_argument(given));
-    tell(rt, b"it has ");
-    if arguments::given_for(given, arguments::INPUT) != 0 {
-        tell_number(rt, (size / 4) as u64);
+    if given.input.is_some() {
+        let numbers = size / 4;
         tell(
             rt,
-            b" numbers, which is not one for each element of the arrays\n",
+            format_args!(
+                "it has {numbers} numbers, which is not one for each element of the arrays\n"
+            ),
         );
     } else {
-        tell_number(rt, size as u64);
         tell(
             rt,
-            b" bytes, which is not one word for each element of the arrays\n",
+            format_args!(
+                "it has {size} bytes, which is not one word for each element of the arrays\n"
+            ),
         );
     }
 }
 
 // What a refusal means, with the place, where there is one.
-fn tell_refusal(rt: &HostRuntime, given: &[usize], text: &[u8], number: u32, offset: usize) {
-    tell(rt, b"doorlang: ");
-    tell_argument(rt, arguments::given_for(given, arguments::FIRST));
-    if number < 3 {
+fn tell_refusal(rt: &HostRuntime, given: Given, text: &[u8], refusal: Refusal) {
+    tell(rt, "doorlang: ");
+    if let Some(i) = given.first {
+        tell_argument(rt, i);
+    }
+    if let Some(offset) = refusal.place() {
         tell_place(rt, text, offset);
     }
-    tell_answer(rt, number, text.len(), offset);
+    tell(rt, ": ");
+    tell(rt, meaning(refusal, text.len()));
+    tell(rt, "\n");
 }
 
 // A refusal: its line, and a sentence. `block` is the size of the input block.
 pub fn refused(
     rt: &HostRuntime,
-    given: &[usize],
+    given: Given,
     text: &[u8],
-    number: u32,
-    offset: usize,
+    refusal: Refusal,
     block: usize,
-) -> u32 {
-    if !output::line(rt, b"answer: ", number as u64) {
-        return output::unwritten(rt);
+) -> Result<Status, Told> {
+    let number = refusal.number();
+    written(rt, println!(rt; "answer: {number}"))?;
+    match refusal {
+        Refusal::Input => tell_block(rt, given, block),
+        _ => tell_refusal(rt, given, text, refusal),
     }
-    if number == 5 {
-        tell_block(rt, given, block);
-    } else {
-        tell_refusal(rt, given, text, number, offset);
-    }
-    output::REFUSED
+    Ok(Status::Refused)
 }
 
-// The bytes of an input block of zeros for a text, within `most`; 0 where the text is refused, which its run then says.
-fn zeros_size(
-    text: &[u8],
-    most: usize,
-    tokens: &mut [u32],
-    tree: &mut [u32],
-    starts: &mut [u32],
-    core: &mut [u32],
-) -> usize
-    ensures { result ≤ most }
-{
-    let a = toolchain::check::check(text, tokens, tree, starts, core);
-    if a.number != 0 {
-        return 0;
-    }
-    let n = a.elements;
-    if n < most / 4 + 1 { 4 * n } else { most }
+// What `check` answers; working room is free again afterwards.
+pub fn elements(text: &[u8]) -> Result<usize, Refusal> {
+    let mut tokens = filled::<u32, TOKENS_ROOM>(0);
+    let mut tree = filled::<u32, TREE_ROOM>(0);
+    let mut starts = filled::<u32, STARTS_ROOM>(0);
+    let mut core = filled::<u32, CORE_ROOM>(0);
+    toolchain::check::check(text, &mut tokens, &mut tree, &mut starts, &mut core)
 }
 
-// The size of the input block: as it is given, or of zeros for the text.
-pub fn block_size(
-    given: &[usize],
-    text: &[u8],
-    size: usize,
-    most: usize,
-    tokens: &mut [u32],
-    tree: &mut [u32],
-    starts: &mut [u32],
-    core: &mut [u32],
-) -> usize
-    requires { size ≤ most }
+// The size of the input block, within `most`: as it is given, or of zeros for the text; 0 where the text is refused, which its run then says.
+pub fn block_size(given: Option<usize>, text: &[u8], most: usize) -> usize
     ensures { result ≤ most }
 {
-    if files::has_block(given) {
-        return size;
+    match given {
+        Some(size) => size.min(most),
+        None => elements(text).unwrap_or(0).saturating_mul(4).min(most),
     }
-    zeros_size(text, most, tokens, tree, starts, core)
 }

@@ -1,7 +1,7 @@
 -- What `doorlang_check` tells: how many elements the arrays of an accepted text have, or where the text is at fault.
-use Rattle.std.specs.Prelude.{ℕ, eqb}
-use Rattle.word.specs.Choice.{pick}
-use Rattle.toolchain.specs.declared.check.Answer.{Answer}
+use Rattle.std.specs.Prelude.{ℕ, Result, Ok, Err}
+use Rattle.toolchain.specs.declared.refusals.Refusal.{Refusal}
+use Rattle.toolchain.specs.Refusals.{number_of}
 use Rattle.doorlang_c.specs.Told.{Told, told, place_of}
 
 pub record Figures : Type 0 where
@@ -11,6 +11,7 @@ pub record Figures : Type 0 where
 abbrev pub figures : ℕ → ℕ → Figures
 figures p e = record { place = p; elements = e }
 
--- a refusal leaves the number of elements as it was
-unfoldable pub checked : Figures → Answer → Told Figures
-checked was a = told a.number (figures (place_of a.number a.place was.place) (pick (eqb a.number 0) a.elements was.elements))
+-- a refusal is its number, with the number of elements as it was; an accepted text is 0 and that number
+unfoldable pub checked : Figures → Result ℕ Refusal → Told Figures
+checked was (Err r) = told (number_of r) (figures (place_of r was.place) was.elements)
+checked was (Ok n) = told 0 (figures was.place n)

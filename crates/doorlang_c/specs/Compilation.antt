@@ -1,7 +1,7 @@
 -- What `doorlang_compile` tells: the image's size in bytes, or where the text is at fault.
-use Rattle.std.specs.Prelude.{ℕ}
-use Rattle.toolchain.specs.declared.compile.Compiled.{Compiled}
-use Rattle.toolchain.specs.declared.compile.Compiled.TheVariants.{Refused, Image}
+use Rattle.std.specs.Prelude.{ℕ, Result, Ok, Err}
+use Rattle.toolchain.specs.declared.refusals.Refusal.{Refusal}
+use Rattle.toolchain.specs.Refusals.{number_of}
 use Rattle.doorlang_c.specs.Told.{Told, told, place_of}
 
 pub record Figures : Type 0 where
@@ -12,6 +12,6 @@ abbrev pub figures : ℕ → ℕ → Figures
 figures s p = record { size = s; place = p }
 
 -- a refusal is its number, with the size as it was; an image is 0 and its size
-unfoldable pub compiled : Figures → Compiled → Told Figures
-compiled was (Refused n at) = told n (figures was.size (place_of n at was.place))
-compiled was (Image n) = told 0 (figures n was.place)
+unfoldable pub compiled : Figures → Result ℕ Refusal → Told Figures
+compiled was (Err r) = told (number_of r) (figures was.size (place_of r was.place))
+compiled was (Ok n) = told 0 (figures n was.place)

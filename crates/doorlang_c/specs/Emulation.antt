@@ -1,8 +1,9 @@
 -- What `doorlang_emulate` tells: how the run stopped.
-use Rattle.std.specs.Prelude.{ℕ}
+use Rattle.std.specs.Prelude.{ℕ, Result, Ok, Err}
+use Rattle.emulator.specs.declared.run.Ended.{Ended}
 use Rattle.emulator_c.specs.Told.{stop_of, number_of}
-use Rattle.toolchain.specs.declared.Outcome.{Outcome}
-use Rattle.toolchain.specs.declared.Outcome.TheVariants.{Refused, Ran}
+use Rattle.toolchain.specs.declared.refusals.Refusal.{Refusal}
+use Rattle.toolchain.specs.Refusals.{number_of as refused_by}
 use Rattle.doorlang_c.specs.Told.{Told, told}
 
 pub record Figures : Type 0 where
@@ -16,6 +17,6 @@ abbrev pub figures : ℕ → ℕ → ℕ → ℕ → ℕ → Figures
 figures s n p c l = record { stop = s; number = n; pc = p; steps = c; logged = l }
 
 -- a refusal is its number, with the figures as they were; a run is 0 and its figures
-unfoldable pub emulated : Figures → Outcome → Told Figures
-emulated was (Refused n) = told n was
-emulated was (Ran e) = told 0 (figures (stop_of e.status) (number_of e.status) e.pc e.steps e.logged)
+unfoldable pub emulated : Figures → Result Ended Refusal → Told Figures
+emulated was (Err r) = told (refused_by r) was
+emulated was (Ok e) = told 0 (figures (stop_of e.status) (number_of e.status) e.pc e.steps e.logged)

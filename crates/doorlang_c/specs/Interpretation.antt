@@ -1,9 +1,10 @@
 -- What `doorlang_interpret` tells: how the run ended, or where the text is at fault.
-use Rattle.std.specs.Prelude.{ℕ}
+use Rattle.std.specs.Prelude.{ℕ, Result, Ok, Err}
 use Rattle.interpreter.specs.declared.Outcome.{Outcome}
 use Rattle.interpreter.specs.declared.Outcome.TheVariants.{Finished, Trapped, OutOfFuel}
-use Rattle.toolchain.specs.declared.interpret.Interpreted.{Interpreted}
-use Rattle.toolchain.specs.declared.interpret.Interpreted.TheVariants.{Refused, Ran}
+use Rattle.interpreter.specs.declared.Ran.{Ran}
+use Rattle.toolchain.specs.declared.refusals.Refusal.{Refusal}
+use Rattle.toolchain.specs.Refusals.{number_of}
 use Rattle.doorlang_c.specs.Told.{Told, told, place_of}
 
 -- document 01 §5: which outcome
@@ -29,6 +30,6 @@ abbrev pub figures : ℕ → ℕ → ℕ → ℕ → ℕ → Figures
 figures o n f l p = record { outcome = o; number = n; fuel_left = f; logged = l; place = p }
 
 -- a refusal is its number, with the figures as they were, the place apart; a run is 0 and its figures
-unfoldable pub interpreted : Figures → Interpreted → Told Figures
-interpreted was (Refused n at) = told n (figures was.outcome was.number was.fuel_left was.logged (place_of n at was.place))
-interpreted was (Ran r) = told 0 (figures (end_of r.outcome) (trap_of r.outcome) r.fuel r.logged was.place)
+unfoldable pub interpreted : Figures → Result Ran Refusal → Told Figures
+interpreted was (Err r) = told (number_of r) (figures was.outcome was.number was.fuel_left was.logged (place_of r was.place))
+interpreted was (Ok r) = told 0 (figures (end_of r.outcome) (trap_of r.outcome) r.fuel r.logged was.place)

@@ -1,6 +1,7 @@
 -- What the entries tell a program in C: an answer, and figures, which stand where its pointers lead.
-use Rattle.std.specs.Prelude.{ℕ, ◌≡◌, eqb}
-use Rattle.word.specs.Choice.{pick, either}
+use Rattle.std.specs.Prelude.{ℕ, ◌≡◌, unwrap_or}
+use Rattle.toolchain.specs.declared.refusals.Refusal.{Refusal}
+use Rattle.toolchain.specs.Refusals.{place_in}
 
 pub record Told (F : Type 0) : Type 0 where
   pub answer : ℕ
@@ -16,5 +17,5 @@ pub record Tells {O F : Type 0} (Answers : O → Type 0) (told_of : F → O → 
   pub tells : is ≡ told_of was outcome
 
 -- where the text is refused (document 01 §1), the place at fault; else the place as it was
-unfoldable pub place_of : ℕ → ℕ → ℕ → ℕ
-place_of answer at was = pick (either (eqb answer 1) (eqb answer 2)) at was
+unfoldable pub place_of : Refusal → ℕ → ℕ
+place_of r was = unwrap_or (place_in r) was

@@ -3,7 +3,7 @@ ghost use Rattle.toolchain.specs.Checking.{Checks, work};
 ghost use Rattle.doorlang_c.specs.Told.{Tells, told};
 ghost use Rattle.doorlang_c.specs.Checking.{figures, checked};
 
-use crate::place::place_of;
+use crate::refused::refused;
 use toolchain::check::check;
 
 // Returns the answer; where that is 0, `elements` is how many the text's arrays have, and else it stays as it was. `place` is the place in a text
@@ -21,10 +21,11 @@ pub extern "C" fn doorlang_check(
 ) -> u32
     ensures { Tells (Checks text.now (work tokens.old tree.old starts.old core.old)) checked (figures place.old elements.old) (told result (figures place.new elements.new)) }
 {
-    let a = check(text, tokens, tree, starts, core);
-    *place = place_of(a.number, a.place, *place);
-    if a.number == 0 {
-        *elements = a.elements;
+    match check(text, tokens, tree, starts, core) {
+        Ok(n) => {
+            *elements = n;
+            0
+        }
+        Err(r) => refused(r, place),
     }
-    a.number
 }

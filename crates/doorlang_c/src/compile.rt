@@ -4,8 +4,8 @@ ghost use Rattle.toolchain.specs.Compilation.{Compiles};
 ghost use Rattle.doorlang_c.specs.Told.{Tells, told};
 ghost use Rattle.doorlang_c.specs.Compilation.{figures, compiled};
 
-use crate::place::place_of;
-use toolchain::compile::{Compiled, compile};
+use crate::refused::refused;
+use toolchain::compile::compile;
 
 // Returns the answer; where that is 0, the image stands at the start of its buffer and `size` is its length in bytes, and else both stay as they
 // were. The last is the place in a text that is refused.
@@ -23,15 +23,11 @@ pub extern "C" fn doorlang_compile(
 ) -> u32
     ensures { Tells (λ c. Compiles text.now (work tokens.old tree.old starts.old core.old) image.old c image.new) compiled (figures size.old place.old) (told result (figures size.new place.new)) }
 {
-    let c = compile(text, image, tokens, tree, starts, core);
-    match c {
-        Compiled::Refused(n, at) => {
-            *place = place_of(n, at, *place);
-            n
-        }
-        Compiled::Image(bytes) => {
+    match compile(text, image, tokens, tree, starts, core) {
+        Ok(bytes) => {
             *size = bytes;
             0
         }
+        Err(r) => refused(r, place),
     }
 }

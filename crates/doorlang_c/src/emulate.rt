@@ -4,7 +4,7 @@ ghost use Rattle.doorlang_c.specs.Told.{Tells, told};
 ghost use Rattle.doorlang_c.specs.Emulation.{figures, emulated};
 
 use emulator_c::{number_of, stop as stop_of};
-use toolchain::{Outcome, emulate};
+use toolchain::emulate;
 
 // Returns the answer; where that is 0, the last five say how the run stopped, and else they stay as they were.
 #[unsafe(no_mangle)]
@@ -25,10 +25,9 @@ pub extern "C" fn doorlang_emulate(
 ) -> u32
     ensures { Tells (Emulates code.now input.now room limit (buffers memory.old registers.old log.old) (buffers memory.new registers.new log.new)) emulated (figures stop.old number.old pc.old steps.old logged.old) (told result (figures stop.new number.new pc.new steps.new logged.new)) }
 {
-    let o = emulate(code, input, memory, registers, log, room, limit);
-    match o {
-        Outcome::Refused(n) => n,
-        Outcome::Ran(e) => {
+    match emulate(code, input, memory, registers, log, room, limit) {
+        Err(r) => r.number(),
+        Ok(e) => {
             let s = e.status;
             *stop = stop_of(s);
             *number = number_of(s);

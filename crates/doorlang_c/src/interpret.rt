@@ -5,57 +5,43 @@ ghost use Rattle.toolchain.specs.Interpretation.{Interprets, lent};
 ghost use Rattle.doorlang_c.specs.Told.{Tells, told};
 ghost use Rattle.doorlang_c.specs.Interpretation.{end_of, trap_of, figures, interpreted};
 
-use crate::place::place_of;
-use interpreter::Outcome;
-use toolchain::interpret::{Interpreted, interpret};
+use crate::refused::refused;
+use interpreter::{Outcome, Ran};
+use toolchain::Refusal;
+use toolchain::interpret::interpret;
 
-// Which outcome, as a number.
-fn outcome_of(o: Outcome) -> u32
-    ensures { result ≡ end_of o }
+// Which outcome, and the number of a trap.
+fn numbers_of(outcome: Outcome) -> (u32, u32)
+    ensures { result ≡ (end_of outcome, trap_of outcome) }
 {
-    match o {
-        Outcome::Finished => 0,
-        Outcome::Trapped(_) => 1,
-        Outcome::OutOfFuel => 2,
-    }
-}
-
-// The number of a trap.
-fn trap_of(o: Outcome) -> u32
-    ensures { result ≡ trap_of o }
-{
-    match o {
-        Outcome::Finished => 0,
-        Outcome::Trapped(n) => n,
-        Outcome::OutOfFuel => 0,
+    match outcome {
+        Outcome::Finished => (0, 0),
+        Outcome::Trapped(n) => (1, n),
+        Outcome::OutOfFuel => (2, 0),
     }
 }
 
 // Writes the figures of a run, or the place in a text that is refused; returns the answer.
 #[tactic(auto, unfolding(crate::specs::Interpretation::interpreted))]
 fn tell(
-    i: Interpreted,
+    ran: Result<Ran, Refusal>,
     outcome: &mut u32,
     number: &mut u32,
     fuel_left: &mut u64,
     logged: &mut usize,
     place: &mut usize,
 ) -> u32
-    ensures { told result (figures outcome.new number.new fuel_left.new logged.new place.new) ≡ interpreted (figures outcome.old number.old fuel_left.old logged.old place.old) i }
+    ensures { told result (figures outcome.new number.new fuel_left.new logged.new place.new) ≡ interpreted (figures outcome.old number.old fuel_left.old logged.old place.old) ran }
 {
-    match i {
-        Interpreted::Refused(n, at) => {
-            *place = place_of(n, at, *place);
-            n
-        }
-        Interpreted::Ran(r) => {
+    match ran {
+        Ok(r) => {
             let o = r.outcome;
-            *outcome = outcome_of(o);
-            *number = trap_of(o);
+            (*outcome, *number) = numbers_of(o);
             *fuel_left = r.fuel;
             *logged = r.logged;
             0
         }
+        Err(r) => refused(r, place),
     }
 }
 
@@ -81,8 +67,8 @@ pub extern "C" fn doorlang_interpret(
 ) -> u32
     ensures { Tells (Interprets text.now input.now fuel room (work tokens.old tree.old starts.old core.old) (lent arrays.old log.old) (lent arrays.new log.new)) interpreted (figures outcome.old number.old fuel_left.old logged.old place.old) (told result (figures outcome.new number.new fuel_left.new logged.new place.new)) }
 {
-    let i = interpret(
+    let ran = interpret(
         text, input, arrays, log, room, fuel, tokens, tree, starts, core,
     );
-    tell(i, outcome, number, fuel_left, logged, place)
+    tell(ran, outcome, number, fuel_left, logged, place)
 }

@@ -3,7 +3,7 @@
 // text where that is 1 or 2.
 #![tactic(auto)]
 
-mod place; // the place of a refused text
+mod refused; // what a refusal tells
 pub mod check; // the answer to a text
 pub mod interpret; // the run of a text
 pub mod compile; // the image of a text

@@ -1,7 +1,8 @@
 -- Calls are their definitions', register by register and argument by argument.
 use Prim.Native.Nat.{ℕ, suc, ◌+◌, ◌-◌, ◌*◌, ◌≤◌, ◌<◌}
 use native.Mathlib.Omega.{arith}
-use mathlib.Core.Path.{◌≡◌, refl, sym, ap, subst, subst⁻¹}
+use native.Mathlib.Decide.{dec_lt}
+use mathlib.Core.Path.{◌≡◌, refl, sym, ap, ◌∙◌, subst, subst⁻¹}
 use mathlib.Core.Bool.{Bool}
 use mathlib.Core.List.{List, [], ◌∷◌, ◌++◌}
 use borrow.Author.Tests.{lt-ltb, le-ltb}
@@ -67,11 +68,36 @@ module _ (k : ℕ) {n at r₁ r₂ : ℕ} {ws ws₁ ws₂ : List ℕ} (is : n �
   clears_more first h f = subst⁻¹ (λ (m : ℕ). Emits (clears first m) at ws ws₂ r₂) is
       (after (subst (λ (x : ℕ). Emits (sw x0 sp (4 * x) ∷ []) at ws ws₁ r₁) (omega arith) (h.each x0 refl)) f)
 
-pub registers_few : {d : ℕ} → d < 7 → d ≡ registers_of d
-registers_few {d} h = ap (λ (b : Bool). pick b d 7) (sym (lt-ltb d 7 h))
+-- so far: what the first k of n have, put before this, is what all have
+pub record Before (code : ℕ → List Instruction) (n k at r₁ : ℕ) (ws ws₁ : List ℕ) : Type 0 where
+  pub rest : {r : ℕ} {ws' : List ℕ} → Emits (code k) r₁ ws₁ ws' r → Emits (code n) at ws ws' r
 
-pub registers_all : {d : ℕ} → 7 ≤ d → 7 ≡ registers_of d
-registers_all {d} h = ap (λ (b : Bool). pick b d 7) (sym (le-ltb d 7 h))
+module _ {code : ℕ → List Instruction} {n at : ℕ} {ws : List ℕ} where
+  pub before_all : Before code n n at at ws ws
+  before_all = record { rest = λ {r} {ws'} (f : Emits (code n) at ws ws' r). f }
+
+  pub before_none : {k r₁ : ℕ} {ws₁ : List ℕ} → Before code n k at r₁ ws ws₁ → Emits (code k) r₁ ws₁ ws₁ r₁ → Emits (code n) at ws ws₁ r₁
+  before_none b f = b.rest f
+
+module _ {n k at r₁ r₂ : ℕ} {ws ws₁ ws₂ : List ℕ} (is : k ≡ suc (k - 1)) where
+  pub before_saves : Before saves n k at r₁ ws ws₁ → EmitsAt (λ q. sw q sp (4 * (65 + (k - 1))) ∷ []) (25 + (k - 1)) r₁ ws₁ ws₂ r₂ →
+      Before saves n (k - 1) at r₂ ws ws₂
+  before_saves b h = record { rest = λ {r} {ws'} (f : Emits (saves (k - 1)) r₂ ws₂ ws' r). b.rest (saves_more (k - 1) is h f) }
+
+  pub before_loads : Before loads n k at r₁ ws ws₁ → EmitsAt (λ q. lw q sp (4 * (65 + (k - 1))) ∷ []) (25 + (k - 1)) r₁ ws₁ ws₂ r₂ →
+      Before loads n (k - 1) at r₂ ws ws₂
+  before_loads b h = record { rest = λ {r} {ws'} (f : Emits (loads (k - 1)) r₂ ws₂ ws' r). b.rest (loads_more (k - 1) is h f) }
+
+  pub before_clears : (first : ℕ) → Before (clears first) n k at r₁ ws ws₁ → EmitsAt (λ q. sw q sp (4 * (first + (k - 1) + 1)) ∷ []) 0 r₁ ws₁ ws₂ r₂ →
+      Before (clears first) n (k - 1) at r₂ ws ws₂
+  before_clears first b h = record { rest = λ {r} {ws'} (f : Emits (clears first (k - 1)) r₂ ws₂ ws' r). b.rest (clears_more (k - 1) is first h f) }
+
+pub registers_are : (d : ℕ) {r : ℕ} → (d < 7 → r ≡ d) → (7 ≤ d → r ≡ 7) → r ≡ registers_of d
+registers_are d {r} few all = by (dec_lt d 7)
+  where
+    by : Dec (d < 7) → r ≡ registers_of d
+    by (yes h) = few h ∙ ap (λ (b : Bool). pick b d 7) (sym (lt-ltb d 7 h))
+    by (no h) = all (omega arith) ∙ ap (λ (b : Bool). pick b d 7) (sym (le-ltb d 7 (omega arith)))
 
 module _ (d : ℕ) {at r₁ r₂ : ℕ} {ws ws₁ ws₂ : List ℕ} where
   pub returns_by : {n : ℕ} → n ≡ registers_of d → Emits (loads n) at ws ws₁ r₁ → Puts (OpImm Add 2 2 4294965312) r₁ ws₁ ws₂ r₂ → Emits (returning d) at ws ws₂ r₂

@@ -7,4 +7,5 @@ pub mod Unaries
 pub mod Arrays
 pub mod Calling
 pub mod Ends
+pub mod Tapes
 pub mod Wordwise

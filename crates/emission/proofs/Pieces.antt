@@ -2,6 +2,7 @@
 use Prim.Native.Nat.{ℕ, zero, suc, ◌+◌, ◌-◌, ◌*◌, ◌≤◌, ◌<◌}
 use native.Mathlib.Omega.{arith}
 use mathlib.Core.Path.{◌≡◌, refl, sym, ap, ◌∙◌, subst, subst⁻¹}
+use mathlib.Core.Logic.{◌⊎◌, inl, inr}
 use mathlib.Core.Bool.{Bool, true, false}
 use mathlib.Core.List.{List, [], ◌∷◌, ◌++◌}
 use borrow.Author.Tests.{lt-ltb, le-ltb}
@@ -106,15 +107,12 @@ module _ {at r : ℕ} {ws ws' : List ℕ} where
   moves p d {t} {s} et es f = f.each (mv (target d) (source p 0)) (λ (k : ℕ).
       ap (λ (x : ℕ). OpImm Add x (number (source p 0)) 0) (sym et) ∙ ap (λ (x : ℕ). OpImm Add t x 0) (sym es))
 
-  pub carry_constant : (d : ℕ) {p : Place} {n t s : ℕ} → p ≡ At.Constant n → t ≡ number (target d) → s ≡ number (source (placed p) 0) →
-      EmitsOne (λ x. fetch (P.constant n) 0 ++ (x ∷ keep d)) (OpImm Add t s 0) at ws ws' r → Emits (move (placed p) d) at ws ws' r
-  carry_constant d {p} {n} {t} {s} e et es f = subst⁻¹ (λ (q : Place). Emits (move (placed q) d) at ws ws' r) e
-      (moves (P.constant n) d et (es ∙ ap (λ (q : Place). number (source (placed q) 0)) e) f)
-
-  pub carry_local : (d : ℕ) {p : Place} {y t s : ℕ} → p ≡ At.Local y → t ≡ number (target d) → s ≡ number (source (placed p) 0) →
-      EmitsOne (λ x. fetch (P.local y) 0 ++ (x ∷ keep d)) (OpImm Add t s 0) at ws ws' r → Emits (move (placed p) d) at ws ws' r
-  carry_local d {p} {y} {t} {s} e et es f = subst⁻¹ (λ (q : Place). Emits (move (placed q) d) at ws ws' r) e
-      (moves (P.local y) d et (es ∙ ap (λ (q : Place). number (source (placed q) 0)) e) f)
+  pub carries : (d : ℕ) (p : Place) {t s : ℕ} → ((n : ℕ) × (p ≡ At.Constant n)) ⊎ ((y : ℕ) × (p ≡ At.Local y)) → t ≡ number (target d) → s ≡ number (source (placed p) 0) →
+      EmitsOne (λ x. fetch (placed p) 0 ++ (x ∷ keep d)) (OpImm Add t s 0) at ws ws' r → Emits (move (placed p) d) at ws ws' r
+  carries d (At.Constant n) m et es f = moves (P.constant n) d et es f
+  carries d (At.Local y) m et es f = moves (P.local y) d et es f
+  carries d (At.Temporary j) (inl (n, e)) et es f = let z : ◌≡◌ {A = ℕ} 0 1 = cc in absurd (omega arith)
+  carries d (At.Temporary j) (inr (y, e)) et es f = let z : ◌≡◌ {A = ℕ} 0 1 = cc in absurd (omega arith)
 
   -- a value brought
 

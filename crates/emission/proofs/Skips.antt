@@ -2,7 +2,9 @@
 use Prim.Native.Nat.{ℕ, zero, suc, ◌+◌, ◌-◌, ◌≤◌, ◌<◌}
 use native.Mathlib.Omega.{arith}
 use mathlib.Core.Path.{◌≡◌, refl, sym, ap, ◌∙◌, subst, subst⁻¹}
-use mathlib.Core.Bool.{Bool, true, false}
+use mathlib.Core.Bool.{Bool, true, false, not, beq}
+use borrow.Author.Tests.{clash, eqb-true, eq-eqb}
+use lib.Dec.{eqb}
 use mathlib.Core.List.{List, [], ◌∷◌, ◌++◌, append_assoc}
 use lib.ListN.{length, length-append}
 use Rattle.processor.specs.declared.Cond.{Cond}
@@ -86,25 +88,20 @@ compares_turned near t p q k c₀ {c} {turned} {u} {v} {at} {r₁} {r₂} {r₃}
     subst⁻¹ (λ (b : Bool). Emits (comparing near t c₀ b p q k) at ws ws₃ r₃) et
     (after (after (subst (λ (x : Cond). Emits (skip near x (source q 1) (source p 0) k) at ws ws₁ r₁) e (f.each (source q 1) (source p 0) (sym ev) (sym eu))) g) h)
 
--- a constant's truth
+-- a constant's truth that is not the jump's
 
-pub always_none : (k : ℕ) {t : Bool} {n at : ℕ} {ws : List ℕ} → t ≡ true → n ≡ 0 → Emits (always t n k) at ws ws at
-always_none k {t} {n} {at} {ws} et en = subst⁻¹ (λ (b : Bool). Emits (always b n k) at ws ws at) et (subst⁻¹ (λ (m : ℕ). Emits (always true m k) at ws ws at) en none)
+pub stays : (t : Bool) (n k : ℕ) {at : ℕ} {ws : List ℕ} → beq (not (eqb n 0)) t ≡ false → Emits (always t n k) at ws ws at
+stays t n k {at} {ws} e = by t (eqb n 0) e refl
+  where
+    stays_at_zero : n ≡ 0 → Emits (always true n k) at ws ws at
+    stays_at_zero z = subst⁻¹ (λ (m : ℕ). Emits (always true m k) at ws ws at) z none
 
-jumps_if : (n k : ℕ) {at r : ℕ} {ws ws' : List ℕ} → (n ≡ 0 → ⊥) → Emits (jump (suc k) ∷ []) at ws ws' r → Emits (always true n k) at ws ws' r
-jumps_if zero k h f = absurd (h refl)
-jumps_if (suc n) k h f = f
+    stays_if : (m : ℕ) → (m ≡ 0 → ⊥) → Emits (always false m k) at ws ws at
+    stays_if zero h = absurd (h refl)
+    stays_if (suc m) h = none
 
-pub always_jump : (k : ℕ) {t : Bool} {n at r : ℕ} {ws ws' : List ℕ} → t ≡ true → (n ≡ 0 → ⊥) → Emits (jump (suc k) ∷ []) at ws ws' r → Emits (always t n k) at ws ws' r
-always_jump k {t} {n} {at} {r} {ws} {ws'} et h f = subst⁻¹ (λ (b : Bool). Emits (always b n k) at ws ws' r) et (jumps_if n k h f)
-
-pub never_jump : (k : ℕ) {t : Bool} {n at r : ℕ} {ws ws' : List ℕ} → t ≡ false → n ≡ 0 → Emits (jump (suc k) ∷ []) at ws ws' r → Emits (always t n k) at ws ws' r
-never_jump k {t} {n} {at} {r} {ws} {ws'} et en f =
-    subst⁻¹ (λ (b : Bool). Emits (always b n k) at ws ws' r) et (subst⁻¹ (λ (m : ℕ). Emits (always false m k) at ws ws' r) en f)
-
-stays_if : (n k : ℕ) {at : ℕ} {ws : List ℕ} → (n ≡ 0 → ⊥) → Emits (always false n k) at ws ws at
-stays_if zero k h = absurd (h refl)
-stays_if (suc n) k h = none
-
-pub never_none : (k : ℕ) {t : Bool} {n at : ℕ} {ws : List ℕ} → t ≡ false → (n ≡ 0 → ⊥) → Emits (always t n k) at ws ws at
-never_none k {t} {n} {at} {ws} et h = subst⁻¹ (λ (b : Bool). Emits (always b n k) at ws ws at) et (stays_if n k h)
+    by : (t b : Bool) → beq (not b) t ≡ false → eqb n 0 ≡ b → Emits (always t n k) at ws ws at
+    by true true e f = stays_at_zero (eqb-true n 0 f)
+    by true false e f = absurd (clash (sym e))
+    by false true e f = absurd (clash (sym e))
+    by false false e f = stays_if n (λ (z : n ≡ 0). clash (sym f ∙ eq-eqb n 0 z))

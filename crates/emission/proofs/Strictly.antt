@@ -1,18 +1,16 @@
 -- The strict operators are their definitions', case by case.
-use Prim.Native.Nat.{ℕ, zero, suc, ◌+◌, ◌-◌, ◌≤◌}
-use native.Mathlib.Omega.{arith}
+use Prim.Native.Nat.{ℕ, ◌+◌, ◌-◌}
 use mathlib.Core.Path.{◌≡◌, refl, sym, ap, ◌∙◌, subst}
 use mathlib.Core.Bool.{Bool, true, false}
-use mathlib.Core.List.{List, [], ◌∷◌, ◌++◌}
+use mathlib.Core.List.{List, ◌∷◌, ◌++◌}
 use mathlib.Core.Option.{Option, none, some}
-use lib.ListN.{get_or-eq_default}
 use Rattle.word.specs.Choice.{pick}
 use Rattle.processor.specs.declared.Alu.{Alu}
 use Rattle.processor.specs.declared.Alu.TheVariants.{Add}
 use Rattle.processor.specs.declared.Cond.{Cond}
 use Rattle.processor.specs.declared.Cond.TheVariants.{Ne}
 use Rattle.processor.specs.declared.Instr.TheVariants.{Branch, Jal, Op, OpImm}
-use Rattle.language.specs.Tree.{Strict, eq, ne, lt, le, gt, ge, add, sub, mul, div, rem}
+use Rattle.language.specs.Tree.{Strict}
 use Rattle.symbolic.specs.Symbolic.{Reg, number, x0, branch, jump, call, op, opi}
 use Rattle.symbolic.specs.Real.{distance}
 use Rattle.codegen.specs.Places as P
@@ -22,33 +20,10 @@ use Rattle.codegen.specs.Operators.{stub, working, immediate, operating, operati
 use Rattle.emission.specs.declared.Work.{Work}
 use Rattle.emission.specs.declared.Work.TheVariants.{Plain, Divided, Tested}
 use Rattle.codegen.specs.Expressions.{deciding_by}
-use Rattle.emission.specs.declared.Relation.{Relation}
-use Rattle.emission.specs.declared.Relation.TheVariants as R
-use Rattle.emission.specs.declared.Immediate.{Immediate}
-use Rattle.emission.specs.declared.Immediate.TheVariants as I
 use Rattle.emission.specs.Tape.{Puts, Emits}
-use Rattle.emission.specs.Macros.{strict_of, worked, related, immediately, EmitsFor, EmitsOne, EmitsAny}
+use Rattle.emission.specs.Macros.{worked, EmitsFor, EmitsOne, EmitsAny}
 use Rattle.emission.proofs.Laws.{one, after}
 use Rattle.emission.proofs.Skips.{registers}
-
--- Numbers that miss every arm of a match: none of those below n.
-abbrev pub Misses : ℕ → ℕ → Type 0
-Misses zero x = Unit {0}
-Misses (suc n) x = Misses n x × (x ≡ n → ⊥)
-
-apart : (n x : ℕ) → n ≤ x → (x ≡ n → ⊥) → suc n ≤ x
-apart zero zero l h = absurd (h refl)
-apart zero (suc x) l h = omega arith
-apart (suc n) zero l h = absurd (omega arith)
-apart (suc n) (suc x) l h = omega (arith, apart n x (omega arith) (λ (e : x ≡ n). h (ap suc e)))
-
-pub missed : (n x : ℕ) → Misses n x → n ≤ x
-missed zero x h = omega arith
-missed (suc n) x h = apart n x (missed n x h.0) h.1
-
-pub strict_rest : (o : ℕ) → 10 ≤ o → strict_of o ≡ rem
-unfolding strict_of
-strict_rest o h = get_or-eq_default (eq ∷ ne ∷ lt ∷ le ∷ gt ∷ ge ∷ add ∷ sub ∷ mul ∷ div ∷ []) rem h
 
 abbrev with_it : Alu → ℕ → Option (Alu × ℕ)
 with_it o n = some (o, n)
@@ -127,31 +102,31 @@ module _ (W : O.Work) (d : ℕ) {w : Work} {m n at r : ℕ} {ws ws' : List ℕ} 
 
 -- By an immediate or not
 
-module _ (s : Strict) (p q : P.Place) (d : ℕ) {i : Immediate} {at : ℕ} {ws : List ℕ} (is : immediately i ≡ immediate s q) where
-  pub operates_with : {a : Alu} {n t u r : ℕ} {ws' : List ℕ} → i ≡ I.With a n → t ≡ number (target d) → u ≡ number (source p 0) →
+module _ (s : Strict) (p q : P.Place) (d : ℕ) {at : ℕ} {ws : List ℕ} where
+  pub operates_with : (a : Alu) (n : ℕ) {t u r : ℕ} {ws' : List ℕ} → some (a, n) ≡ immediate s q → t ≡ number (target d) → u ≡ number (source p 0) →
       EmitsOne (λ x. fetch p 0 ++ (x ∷ keep d)) (OpImm a t u n) at ws ws' r → Emits (operating s p q d) at ws ws' r
-  operates_with {a} {n} {t} {u} {r} {ws'} e et eu h =
-      subst (λ (x : Option (Alu × ℕ)). Emits (operating_by x s p q d) at ws ws' r) (ap immediately (sym e) ∙ is)
+  operates_with a n {t} {u} {r} {ws'} is et eu h =
+      subst (λ (x : Option (Alu × ℕ)). Emits (operating_by x s p q d) at ws ws' r) is
       (h.each (opi a (target d) (source p 0) n) (λ (k : ℕ). ap (λ (z : ℕ). OpImm a z (number (source p 0)) n) (sym et) ∙ ap (λ (z : ℕ). OpImm a t z n) (sym eu)))
 
-  pub operates : {u v r₁ r₂ r₃ : ℕ} {ws₁ ws₂ ws₃ : List ℕ} → i ≡ I.None → u ≡ number (source p 0) → v ≡ number (source q 1) →
+  pub operates : {u v r₁ r₂ r₃ : ℕ} {ws₁ ws₂ ws₃ : List ℕ} → none ≡ immediate s q → u ≡ number (source p 0) → v ≡ number (source q 1) →
       EmitsFor (λ x y. working (O.work s) x y d) u v at ws ws₁ r₁ → Emits (fetch q 1) r₁ ws₁ ws₂ r₂ → Emits (fetch p 0) r₂ ws₂ ws₃ r₃ →
       Emits (operating s p q d) at ws ws₃ r₃
-  operates {u} {v} {r₁} {r₂} {r₃} {ws₁} {ws₂} {ws₃} e eu ev h f g =
-      subst (λ (x : Option (Alu × ℕ)). Emits (operating_by x s p q d) at ws ws₃ r₃) (ap immediately (sym e) ∙ is)
+  operates {u} {v} {r₁} {r₂} {r₃} {ws₁} {ws₂} {ws₃} is eu ev h f g =
+      subst (λ (x : Option (Alu × ℕ)). Emits (operating_by x s p q d) at ws ws₃ r₃) is
       (after (after (h.each (source p 0) (source q 1) (sym eu) (sym ev)) f) g)
 
 -- As a condition
 
-module _ (near t : Bool) (s : Strict) (p q : P.Place) (d k : ℕ) {x : Relation} {at : ℕ} {ws : List ℕ} (is : related x ≡ O.relation s) where
-  pub decides_one : {c : Cond} {turned : Bool} {r : ℕ} {ws' : List ℕ} → x ≡ R.One c turned → Emits (O.comparing near t c turned p q k) at ws ws' r →
+module _ (near t : Bool) (s : Strict) (p q : P.Place) (d k : ℕ) {at : ℕ} {ws : List ℕ} where
+  pub decides_one : (x : Cond × Bool) {r : ℕ} {ws' : List ℕ} → some x ≡ O.relation s → Emits (O.comparing near t x.0 x.1 p q k) at ws ws' r →
       EmitsAny (λ entry. deciding_by entry near (O.relation s) t s p q d k) at ws ws' r
-  decides_one {c} {turned} {r} {ws'} e h = record {
-    each = λ (entry : ℕ → ℕ). subst (λ (z : Option (Cond × Bool)). Emits (deciding_by entry near z t s p q d k) at ws ws' r) (ap related (sym e) ∙ is) h;
+  decides_one (c, turned) {r} {ws'} is h = record {
+    each = λ (entry : ℕ → ℕ). subst (λ (z : Option (Cond × Bool)). Emits (deciding_by entry near z t s p q d k) at ws ws' r) is h;
   }
 
-  pub decides : {r₁ r₂ : ℕ} {ws₁ ws₂ : List ℕ} → x ≡ R.None → Emits (O.testing near t (P.temporary d) k) at ws ws₁ r₁ → Emits (operating s p q d) r₁ ws₁ ws₂ r₂ →
+  pub decides : {r₁ r₂ : ℕ} {ws₁ ws₂ : List ℕ} → none ≡ O.relation s → Emits (O.testing near t (P.temporary d) k) at ws ws₁ r₁ → Emits (operating s p q d) r₁ ws₁ ws₂ r₂ →
       EmitsAny (λ entry. deciding_by entry near (O.relation s) t s p q d k) at ws ws₂ r₂
-  decides {r₁} {r₂} {ws₁} {ws₂} e h f = record {
-    each = λ (entry : ℕ → ℕ). subst (λ (z : Option (Cond × Bool)). Emits (deciding_by entry near z t s p q d k) at ws ws₂ r₂) (ap related (sym e) ∙ is) (after h f);
+  decides {r₁} {r₂} {ws₁} {ws₂} is h f = record {
+    each = λ (entry : ℕ → ℕ). subst (λ (z : Option (Cond × Bool)). Emits (deciding_by entry near z t s p q d k) at ws ws₂ r₂) is (after h f);
   }

@@ -3,9 +3,11 @@ use Prim.Native.Nat.{ℕ, suc, ◌+◌, ◌*◌, ◌≤◌, ◌<◌}
 use native.Mathlib.Omega.{arith}
 use mathlib.Core.Path.{◌≡◌, refl, sym, ap, ◌∙◌}
 use mathlib.Core.List.{List, [], ◌∷◌, ◌++◌, append_assoc}
-use lib.ListN.{length, set, take, drop, get_or, length-append, length-drop}
+use lib.ListN.{length, take, drop, get_or, length-append, length-drop, take-append-drop}
+use borrow.Rule.Slice.PartMut.{put_mid}
+use Rattle.std.proofs.lemmas.Slice.{take-put_mid, drop-put_mid}
 use lib.Seq.{sets, sets-eq, take-suc, take_at, drop-drop, length-take-le, drop-append-add}
-use Rattle.word.specs.Bytes.{byte₀, byte₁, byte₂, byte₃, bytes_of, bytes_of_words}
+use Rattle.word.specs.Bytes.{bytes_of, bytes_of_words}
 use Rattle.symbolic.specs.Symbolic.{Instruction}
 use Rattle.symbolic.specs.Real.{words_from, image_of}
 use Rattle.emission.specs.Tape.{Emits}
@@ -25,15 +27,15 @@ unfolding bytes_of_words bytes_of
 bytes_append [] w = refl
 bytes_append (v ∷ ws) w = ap (λ (l : List ℕ). bytes_of v ++ l) (bytes_append ws w) ∙ sym (append_assoc (bytes_of v) (bytes_of_words ws) (bytes_of w))
 
--- the stores of one word
-pub four : (image : List ℕ) (at w : ℕ) →
-    set (set (set (set image at (byte₀ w)) (at + 1) (byte₁ w)) (at + 2) (byte₂ w)) (at + 3) (byte₃ w) ≡ sets image at (bytes_of w)
-unfolding bytes_of
-four image at w =
-    let e₁ : at + 1 ≡ suc at = omega arith in
-    let e₂ : at + 2 ≡ suc (suc at) = omega arith in
-    let e₃ : at + 3 ≡ suc (suc (suc at)) = omega arith in
-    rw (e₁, e₂, e₃)
+-- one word's bytes, put in place of four others
+pub four : (image bytes : List ℕ) (at k w : ℕ) → k ≡ 4 → at + 4 ≤ length image → bytes ≡ bytes_of w → put_mid at k image bytes ≡ sets image at (bytes_of w)
+four image bytes at k w e h f =
+    let long : length bytes ≡ 4 = ap length f ∙ bytes_four w in
+    sym (take-append-drop (at + 4) (put_mid at k image bytes))
+    ∙ ap (λ (l : List ℕ). l ++ drop (at + 4) (put_mid at k image bytes)) (take-put_mid at k image bytes (at + 4) (omega arith) (omega arith))
+    ∙ ap (λ (l : List ℕ). (take at image ++ bytes) ++ l) (drop-put_mid at k image bytes (at + 4) (omega arith) (omega arith) (omega arith))
+    ∙ ap (λ (l : List ℕ). (take at image ++ l) ++ drop (at + 4) image) f
+    ∙ ap (λ (n : ℕ). (take at image ++ bytes_of w) ++ drop (at + n) image) (sym (bytes_four w)) ∙ sym (sets-eq (bytes_of w) image at (omega (arith, bytes_four w)))
 
 -- an image's bytes, once its code stands from the first word on
 

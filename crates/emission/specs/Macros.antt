@@ -1,13 +1,9 @@
--- What the functions for the pieces of code that `codegen` is made of ensure: a register is given by its number, and an operator by its number in the
--- flat form's table.
-use Rattle.std.specs.Prelude.{ℕ, ◌≡◌, Bool, List, [], ◌∷◌, get_or}
+-- What the functions for the pieces of code that `codegen` is made of ensure: a register is given by its number.
+use Rattle.std.specs.Prelude as Std
+use Rattle.std.specs.Prelude.{ℕ, ◌≡◌, List, Some, None}
 use Rattle.std.proofs.Math.Option.{Option, none, some}
-use Rattle.processor.specs.declared.Alu.{Alu}
-use Rattle.processor.specs.declared.Cond.{Cond}
 use Rattle.processor.specs.declared.Instr.{Instr}
 use Rattle.language.specs.Core.{Array}
-use Rattle.language.specs.Tree as T
-use Rattle.language.specs.Tree.{Unary, negate, Strict, eq, ne, lt, le, gt, ge, add, sub, mul, div, rem}
 use Rattle.symbolic.specs.Symbolic.{Reg, number, Instruction}
 use Rattle.symbolic.specs.Real.{real}
 use Rattle.codegen.specs.Places as P
@@ -16,12 +12,9 @@ use Rattle.emission.specs.declared.Place.{Place}
 use Rattle.emission.specs.declared.Place.TheVariants.{Constant, Local, Temporary}
 use Rattle.emission.specs.declared.Work.{Work}
 use Rattle.emission.specs.declared.Work.TheVariants.{Plain, Divided, Tested}
-use Rattle.emission.specs.declared.Relation.{Relation}
-use Rattle.emission.specs.declared.Relation.TheVariants.{One}
-use Rattle.emission.specs.declared.Relation.TheVariants as R
-use Rattle.emission.specs.declared.Immediate.{Immediate}
-use Rattle.emission.specs.declared.Immediate.TheVariants.{With}
-use Rattle.emission.specs.declared.Immediate.TheVariants as I
+use Rattle.emission.specs.declared.Array as D
+use Rattle.emission.specs.declared.image.Service as S
+use Rattle.emission.specs.declared.image.Service.TheVariants as SV
 use Rattle.emission.specs.Tape.{Emits}
 
 abbrev pub placed : Place → P.Place
@@ -48,25 +41,22 @@ pub record EmitsAny (code : (ℕ → ℕ) → List Instruction) (at : ℕ) (ws w
 abbrev pub array : ℕ → ℕ → Array
 array o s = record { offset = o; size = s }
 
--- the unary operator with a number; past the table the last one
-unfoldable pub unary_of : ℕ → Unary
-unary_of o = get_or (negate ∷ []) o T.not
+-- the types of src/lib.rt, as codegen's
 
--- the strict operator with a number; past the table the last one
-unfoldable pub strict_of : ℕ → Strict
-strict_of o = get_or (eq ∷ ne ∷ lt ∷ le ∷ gt ∷ ge ∷ add ∷ sub ∷ mul ∷ div ∷ []) o rem
+abbrev pub arrayed : D.Array → Array
+arrayed a = array a.offset a.size
 
--- the enums of src/lib.rt, as codegen's
+abbrev pub service_number : S.Service → ℕ
+service_number SV.Exit = 0
+service_number SV.Log = 1
+service_number SV.Trap = 2
 
 abbrev pub worked : Work → O.Work
 worked (Plain o t) = O.plain o t
 worked (Divided o) = O.divided o
 worked (Tested c t) = O.tested c t
 
-abbrev pub related : Relation → Option (Cond × Bool)
-related (One c t) = some (c, t)
-related R.None = none
-
-abbrev pub immediately : Immediate → Option (Alu × ℕ)
-immediately (With o n) = some (o, n)
-immediately I.None = none
+-- what is there or not, as codegen says it
+abbrev pub optional : {A : Type 0} → Std.Option A → Option A
+optional (Some x) = some x
+optional None = none

@@ -6,12 +6,13 @@ ghost use Rattle.symbolic.specs.Symbolic.{x0, answer, jump as jump_of};
 ghost use Rattle.symbolic.specs.Fine.{far};
 ghost use Rattle.symbolic.specs.Real.{distance};
 ghost use Rattle.codegen.specs.Operators.{opposite as opposite_of, skip as skip_of, sense as sense_of, testing as testing_of, comparing as comparing_of, always as always_of};
-ghost use Rattle.emission.specs.Tape.{Puts, Emits};
+ghost use Rattle.emission.specs.Tape.{Emits};
+ghost use Rattle.emission.specs.OnTape.{OnTape, Fills};
 ghost use Rattle.emission.specs.Macros.{placed, EmitsFor};
 
-use crate::Place;
 use crate::places::{ANSWER, fetch, source};
-use crate::tape::{onward, put, reach};
+use crate::tape::Tape;
+use crate::{Jump, Place, Sides};
 use processor::{Cond, Instr};
 
 pub const RA: u32 = 1;
@@ -38,105 +39,89 @@ pub fn sense(t: bool, c: Cond) -> Cond
 }
 
 // Jumps to position `to`, over all that stands before it.
-pub fn jump(out: &mut [u32], at: usize, to: usize) -> usize
-    requires { (at ≤ to) × (to ≤ far) }
-    ensures emits { Emits (jump_of (suc (to - at)) ∷ []) at out.old out.new result }
-    ensures within { result ≤ at }
+pub fn jump(tape: &mut Tape, to: usize)
+    requires { (tape.old.at ≤ to) × (to ≤ far) }
+    ensures { OnTape (Emits (jump_of (suc (to - tape.old.at)) ∷ [])) tape.old tape.new }
 {
-    let by = reach(at, to);
-    put(out, at, Instr::Jal(0, by))
+    let by = tape.reach(to);
+    tape.put(Instr::Jal(0, by));
 }
 
 // Jumps there if a comparison holds: near by a branch, far by a branch around a jump.
-pub fn skip(out: &mut [u32], at: usize, near: bool, c: Cond, r: u32, s: u32, to: usize) -> usize
-    requires { (at ≤ to) × (to ≤ far) }
-    ensures emits_for { EmitsFor (λ p q. skip_of near c p q (to - at)) r s at out.old out.new result }
-    ensures within { result ≤ at }
+pub fn skip(tape: &mut Tape, way: Jump, c: Cond, r: u32, s: u32)
+    requires { tape.old.at ≤ way.to }
+    ensures { OnTape (EmitsFor (λ p q. skip_of way.near c p q (way.to - tape.old.at)) r s) tape.old tape.new }
 {
-    if near {
-        let by = reach(at, to);
-        return put(out, at, Instr::Branch(c, r, s, by));
+    if way.near {
+        let by = tape.reach(way.to);
+        tape.put(Instr::Branch(c, r, s, by));
+    } else {
+        let other = opposite(c);
+        jump(tape, way.to);
+        let around = tape.onward(2);
+        tape.put(Instr::Branch(other, r, s, around));
     }
-    let other = opposite(c);
-    let last = jump(out, at, to);
-    let around = onward(last, 2);
-    put(out, last, Instr::Branch(other, r, s, around))
 }
 
-// Jumps where a value's truth is t.
-pub fn testing(out: &mut [u32], at: usize, near: bool, t: bool, p: Place, to: usize) -> usize
-    requires { (at ≤ to) × (to ≤ far) }
-    ensures emits { Emits (testing_of near t (placed p) (to - at)) at out.old out.new result }
-    ensures within { result ≤ at }
+// Jumps where a value's truth is the jump's.
+pub fn testing(tape: &mut Tape, way: Jump, p: Place)
+    requires { tape.old.at ≤ way.to }
+    ensures { OnTape (Emits (testing_of way.near way.when (placed p) (way.to - tape.old.at))) tape.old tape.new }
 {
-    let c = sense(t, Cond::Ne);
+    let c = sense(way.when, Cond::Ne);
     let from = source(p, 0);
-    let last = skip(out, at, near, c, from, 0, to);
-    fetch(out, last, p, 0)
+    skip(tape, way, c, from, 0);
+    fetch(tape, p, 0);
 }
 
-// Jumps where the truth of a call's result is t.
-pub fn testing_answer(out: &mut [u32], at: usize, near: bool, t: bool, to: usize) -> usize
-    requires { (at ≤ to) × (to ≤ far) }
-    ensures emits { Emits (skip_of near (sense_of t NeOf) answer x0 (to - at)) at out.old out.new result }
-    ensures within { result ≤ at }
+// Jumps where the truth of a call's result is the jump's.
+pub fn testing_answer(tape: &mut Tape, way: Jump)
+    requires { tape.old.at ≤ way.to }
+    ensures { OnTape (Emits (skip_of way.near (sense_of way.when NeOf) answer x0 (way.to - tape.old.at))) tape.old tape.new }
 {
-    let c = sense(t, Cond::Ne);
-    skip(out, at, near, c, ANSWER, 0, to)
+    let c = sense(way.when, Cond::Ne);
+    skip(tape, way, c, ANSWER, 0);
 }
 
-// Jumps where a comparison's truth is t; its sides may be exchanged.
-pub fn comparing(
-    out: &mut [u32],
-    at: usize,
-    near: bool,
-    t: bool,
-    c: Cond,
-    turned: bool,
-    p: Place,
-    q: Place,
-    to: usize,
-) -> usize
-    requires { (at ≤ to) × (to ≤ far) }
-    ensures emits { Emits (comparing_of near t c turned (placed p) (placed q) (to - at)) at out.old out.new result }
-    ensures within { result ≤ at }
+// Jumps where a comparison's truth is the jump's; the second half says whether the sides are exchanged.
+pub fn comparing(tape: &mut Tape, way: Jump, comparison: (Cond, bool), sides: Sides)
+    requires { tape.old.at ≤ way.to }
+    ensures { OnTape (Emits (comparing_of way.near way.when comparison.0 comparison.1 (placed sides.left) (placed sides.right) (way.to - tape.old.at))) tape.old tape.new }
 {
-    let cond = sense(t, c);
-    let from = source(p, 0);
-    let other = source(q, 1);
+    let (c, turned) = comparison;
+    let cond = sense(way.when, c);
+    let from = source(sides.left, 0);
+    let other = source(sides.right, 1);
     if turned {
-        let last = skip(out, at, near, cond, other, from, to);
-        let middle = fetch(out, last, q, 1);
-        return fetch(out, middle, p, 0);
+        skip(tape, way, cond, other, from);
+        fetch(tape, sides.right, 1);
+        fetch(tape, sides.left, 0);
+    } else {
+        skip(tape, way, cond, from, other);
+        fetch(tape, sides.right, 1);
+        fetch(tape, sides.left, 0);
     }
-    let last = skip(out, at, near, cond, from, other, to);
-    let middle = fetch(out, last, q, 1);
-    fetch(out, middle, p, 0)
 }
 
 // A constant's truth is known.
-pub fn always(out: &mut [u32], at: usize, t: bool, n: u32, to: usize) -> usize
-    requires { (at ≤ to) × (to ≤ far) }
-    ensures emits { Emits (always_of t n (to - at)) at out.old out.new result }
-    ensures within { result ≤ at }
+pub fn always(tape: &mut Tape, way: Jump, n: u32)
+    requires { tape.old.at ≤ way.to }
+    ensures { OnTape (Emits (always_of way.when n (way.to - tape.old.at))) tape.old tape.new }
 {
-    if t {
-        if n == 0 {
-            return at;
-        }
-        return jump(out, at, to);
+    let truth = n != 0;
+    if truth == way.when {
+        jump(tape, way.to);
     }
-    if n == 0 {
-        return jump(out, at, to);
-    }
-    at
 }
 
-// Puts the jump to position `start` into the word before `at`, which was left free.
-pub fn jump_back(out: &mut [u32], at: usize, start: usize)
-    requires { (at ≤ far) × (start ≤ far) }
-    ensures { Puts (Jal 0 (distance (at - 1) start)) at out.old out.new (at - 1) }
+// Fills the word before position `end`, which was left free, with the jump to where the code begins that is written.
+pub fn jump_back(tape: &mut Tape, end: usize)
+    requires { (tape.old.at ≤ far) × (end ≤ far) }
+    ensures { OnTape (Fills (Jal 0 (distance (end - 1) tape.old.at)) end) tape.old tape.new }
 {
-    let by = reach(at, start);
-    put(out, at, Instr::Jal(0, by));
+    let start = tape.at;
+    tape.at = end;
+    let by = tape.reach(start);
+    tape.put(Instr::Jal(0, by));
+    tape.at = start;
 }

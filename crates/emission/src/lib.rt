@@ -1,6 +1,9 @@
 // The pieces of code that the compiler puts together. Each function puts what a definition of the crate `codegen` gives.
 #![tactic(auto)]
 
+ghost use Rattle.std.specs.Prelude.{◌≤◌};
+ghost use Rattle.symbolic.specs.Fine.{far};
+
 use processor::{Alu, Cond};
 
 pub mod tape; // instructions, put one before the other
@@ -29,16 +32,25 @@ pub enum Work {
     Tested(Cond, bool),
 }
 
-// The one branch that an operator is as a condition, if it is one.
+// The places of an operator's sides.
 #[derive(Clone, Copy)]
-pub enum Relation {
-    One(Cond, bool),
-    None,
+pub struct Sides {
+    pub left: Place,
+    pub right: Place,
 }
 
-// The one instruction with an immediate that an operator is, if it is one.
+// An array: its offset among all elements, and its size.
 #[derive(Clone, Copy)]
-pub enum Immediate {
-    With(Alu, u32),
-    None,
+pub struct Array {
+    pub offset: u32,
+    pub size: u32,
+}
+
+// A jump to a position of code where a truth is `when`: one branch if that is near, else a branch around a jump.
+#[derive(Clone, Copy)]
+pub struct Jump {
+    pub near: bool,
+    pub when: bool,
+    pub to: usize,
+    ghost in_reach: { to ≤ far },
 }

@@ -1,15 +1,17 @@
 // Where values are: constants made, operands fetched, results kept.
-ghost use Rattle.std.specs.Prelude.{◌≡◌, ◌∷◌, [], ◌++◌, ◌+◌, ◌*◌, ◌%◌, ◌^◌, ◌≤◌, ◌<◌};
+ghost use Rattle.std.specs.Prelude.{◌≡◌, ◌∷◌, [], ◌++◌, ◌+◌, ◌*◌, ◌%◌, ◌^◌, ◌<◌};
 ghost use Rattle.symbolic.specs.Symbolic.{number, sp, lw, sw};
 ghost use Rattle.codegen.specs.Places.{short as short_of, upper_of, lower_of, constant_to, source as source_of, fetch as fetch_of, target as target_of, keep as keep_of, settle as settle_of, move as move_of, bring as bring_of};
 ghost use Rattle.emission.specs.Tape.{Emits};
+ghost use Rattle.emission.specs.OnTape.{OnTape};
 ghost use Rattle.emission.specs.Macros.{placed, EmitsAt, EmitsOne};
 
 use crate::Place;
-use crate::tape::put;
+use crate::tape::Tape;
 use processor::{Alu, Instr, Width};
 use word::bits::sign_extend;
 
+// Registers are numbers, as instructions hold them: temporaries are counted on from the first.
 pub const SP: u32 = 2;
 
 pub const SCRATCH: u32 = 4;
@@ -29,10 +31,7 @@ pub const FIRST_TEMPORARY: u64 = 65;
 pub fn short(n: u32) -> bool
     ensures { result ≡ short_of n }
 {
-    if n < 2048 {
-        return true;
-    }
-    4294965248 <= n
+    n < 2048 || 4294965248 <= n
 }
 
 // The upper part of a word, for lui.
@@ -51,35 +50,33 @@ pub fn lower(n: u64) -> u32
 }
 
 // A constant to a register: one instruction, or two.
-pub fn constant_to(out: &mut [u32], at: usize, r: u32, n: u32) -> usize
-    ensures emits_at { EmitsAt (λ p. constant_to p n) r at out.old out.new result }
-    ensures within { result ≤ at }
+pub fn constant_to(tape: &mut Tape, r: u32, n: u32)
+    ensures { OnTape (EmitsAt (λ p. constant_to p n) r) tape.old tape.new }
 {
     if short(n) {
-        return put(out, at, Instr::OpImm(Alu::Add, r, 0, n));
+        tape.put(Instr::OpImm(Alu::Add, r, 0, n));
+    } else {
+        let low = lower(n as u64);
+        let high = upper(n as u64);
+        tape.put(Instr::OpImm(Alu::Add, r, r, low));
+        tape.put(Instr::Lui(r, high));
     }
-    let low = lower(n as u64);
-    let high = upper(n as u64);
-    let last = put(out, at, Instr::OpImm(Alu::Add, r, r, low));
-    put(out, last, Instr::Lui(r, high))
 }
 
 // A word of the frame, so many bytes behind its start, to a register.
-pub fn load(out: &mut [u32], at: usize, r: u32, n: u64) -> usize
-    ensures emits_at { EmitsAt (λ p. lw p sp n ∷ []) r at out.old out.new result }
-    ensures within { result ≤ at }
+pub fn load(tape: &mut Tape, r: u32, n: u64)
+    ensures { OnTape (EmitsAt (λ p. lw p sp n ∷ []) r) tape.old tape.new }
 {
     let low = (n % 4096) as u32;
-    put(out, at, Instr::Load(Width::Word, r, SP, low))
+    tape.put(Instr::Load(Width::Word, r, SP, low));
 }
 
 // A register to a word of the frame.
-pub fn store(out: &mut [u32], at: usize, r: u32, n: u64) -> usize
-    ensures emits_at { EmitsAt (λ p. sw p sp n ∷ []) r at out.old out.new result }
-    ensures within { result ≤ at }
+pub fn store(tape: &mut Tape, r: u32, n: u64)
+    ensures { OnTape (EmitsAt (λ p. sw p sp n ∷ []) r) tape.old tape.new }
 {
     let low = (n % 4096) as u32;
-    put(out, at, Instr::Store(Width::Word, SP, r, low))
+    tape.put(Instr::Store(Width::Word, SP, r, low));
 }
 
 // Of an operand, the number of its register, once it is fetched to scratch register w where it is in none.
@@ -89,7 +86,7 @@ pub fn source(p: Place, w: u32) -> u32
 {
     match p {
         Place::Constant(n) => if n == 0 { 0 } else { SCRATCH + w },
-        Place::Local(y) => SCRATCH + w,
+        Place::Local(_) => SCRATCH + w,
         Place::Temporary(d) => if d < IN_REGISTERS {
             TEMPORARIES + d
         } else {
@@ -99,24 +96,21 @@ pub fn source(p: Place, w: u32) -> u32
 }
 
 // Fetches an operand.
-pub fn fetch(out: &mut [u32], at: usize, p: Place, w: u32) -> usize
+pub fn fetch(tape: &mut Tape, p: Place, w: u32)
     requires { w < 2 }
-    ensures emits { Emits (fetch_of (placed p) w) at out.old out.new result }
-    ensures within { result ≤ at }
+    ensures { OnTape (Emits (fetch_of (placed p) w)) tape.old tape.new }
 {
     match p {
         Place::Constant(n) => {
-            if n == 0 {
-                return at;
+            if n != 0 {
+                constant_to(tape, SCRATCH + w, n);
             }
-            constant_to(out, at, SCRATCH + w, n)
         }
-        Place::Local(y) => load(out, at, SCRATCH + w, 4 * (y as u64 + 1)),
+        Place::Local(y) => load(tape, SCRATCH + w, 4 * (y as u64 + 1)),
         Place::Temporary(d) => {
-            if d < IN_REGISTERS {
-                return at;
+            if IN_REGISTERS <= d {
+                load(tape, SCRATCH + w, 4 * (FIRST_TEMPORARY + d as u64));
             }
-            load(out, at, SCRATCH + w, 4 * (FIRST_TEMPORARY + d as u64))
         }
     }
 }
@@ -132,63 +126,59 @@ pub fn target_of(d: u32) -> u32
 }
 
 // Keeps it there.
-pub fn keep(out: &mut [u32], at: usize, d: u32) -> usize
-    ensures emits { Emits (keep_of d) at out.old out.new result }
-    ensures within { result ≤ at }
+pub fn keep(tape: &mut Tape, d: u32)
+    ensures { OnTape (Emits (keep_of d)) tape.old tape.new }
 {
-    if d < IN_REGISTERS {
-        return at;
+    if IN_REGISTERS <= d {
+        store(tape, SCRATCH, 4 * (FIRST_TEMPORARY + d as u64));
     }
-    store(out, at, SCRATCH, 4 * (FIRST_TEMPORARY + d as u64))
 }
 
 // One instruction on an operand, whose result becomes temporary d.
-pub fn kept(out: &mut [u32], at: usize, p: Place, d: u32, i: Instr) -> usize
-    ensures emits_one { EmitsOne (λ x. fetch_of (placed p) 0 ++ (x ∷ keep_of d)) i at out.old out.new result }
-    ensures within { result ≤ at }
+pub fn kept(tape: &mut Tape, p: Place, d: u32, i: Instr)
+    ensures { OnTape (EmitsOne (λ x. fetch_of (placed p) 0 ++ (x ∷ keep_of d)) i) tape.old tape.new }
 {
-    let end = keep(out, at, d);
-    let middle = put(out, end, i);
-    fetch(out, middle, p, 0)
+    keep(tape, d);
+    tape.put(i);
+    fetch(tape, p, 0);
 }
 
 // 0 or 1 becomes temporary d.
-pub fn settle(out: &mut [u32], at: usize, v: u32, d: u32) -> usize
-    ensures emits { Emits (settle_of v d) at out.old out.new result }
-    ensures within { result ≤ at }
+pub fn settle(tape: &mut Tape, v: u32, d: u32)
+    ensures { OnTape (Emits (settle_of v d)) tape.old tape.new }
 {
     let to = target_of(d);
-    let last = keep(out, at, d);
-    put(out, last, Instr::OpImm(Alu::Add, to, 0, v))
+    keep(tape, d);
+    tape.put(Instr::OpImm(Alu::Add, to, 0, v));
 }
 
 // A value from its place to temporary d, where it may be already.
-pub fn carry(out: &mut [u32], at: usize, p: Place, d: u32) -> usize
-    ensures emits { Emits (move_of (placed p) d) at out.old out.new result }
-    ensures within { result ≤ at }
+pub fn carry(tape: &mut Tape, p: Place, d: u32)
+    ensures { OnTape (Emits (move_of (placed p) d)) tape.old tape.new }
 {
     let to = target_of(d);
     let from = source(p, 0);
     match p {
-        Place::Constant(n) => kept(out, at, p, d, Instr::OpImm(Alu::Add, to, from, 0)),
-        Place::Local(y) => kept(out, at, p, d, Instr::OpImm(Alu::Add, to, from, 0)),
-        Place::Temporary(j) => at,
+        Place::Constant(_) | Place::Local(_) => {
+            kept(tape, p, d, Instr::OpImm(Alu::Add, to, from, 0));
+        }
+        Place::Temporary(_) => {}
     }
 }
 
 // A value from its place to the register of results.
-pub fn bring(out: &mut [u32], at: usize, p: Place) -> usize
-    ensures emits { Emits (bring_of (placed p)) at out.old out.new result }
-    ensures within { result ≤ at }
+pub fn bring(tape: &mut Tape, p: Place)
+    ensures { OnTape (Emits (bring_of (placed p))) tape.old tape.new }
 {
     match p {
-        Place::Constant(n) => constant_to(out, at, ANSWER, n),
-        Place::Local(y) => load(out, at, ANSWER, 4 * (y as u64 + 1)),
+        Place::Constant(n) => constant_to(tape, ANSWER, n),
+        Place::Local(y) => load(tape, ANSWER, 4 * (y as u64 + 1)),
         Place::Temporary(d) => {
             if d < IN_REGISTERS {
-                return put(out, at, Instr::OpImm(Alu::Add, ANSWER, TEMPORARIES + d, 0));
+                tape.put(Instr::OpImm(Alu::Add, ANSWER, TEMPORARIES + d, 0));
+            } else {
+                load(tape, ANSWER, 4 * (FIRST_TEMPORARY + d as u64));
             }
-            load(out, at, ANSWER, 4 * (FIRST_TEMPORARY + d as u64))
         }
     }
 }

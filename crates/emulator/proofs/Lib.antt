@@ -1,5 +1,3 @@
-pub mod Reach
-pub mod Tables
-pub mod Fusing
+pub mod Stores
 pub mod Log
 pub mod Turns

@@ -4,8 +4,8 @@ use mathlib.Core.Path.{◌≡◌, refl, sym, ◌∙◌, ap, subst}
 use mathlib.Core.List.{List, [], ◌∷◌, ◌++◌}
 use native.Mathlib.Omega.{arith}
 use native.Mathlib.Numerals.{add-one}
-use lib.ListN.{length, take, drop, set}
-use lib.Seq.{take-suc-set, drop-set-lt, drop-drop}
+use lib.ListN.{length, take, drop, set, take-append-drop}
+use lib.Seq.{take-suc-set, drop-set-lt, drop-drop, drop-append-le, length-take-le}
 use Rattle.emulator.specs.Stands.{Grows}
 
 pub one_more : (l : List ℕ) (n x : ℕ) → n < length l → take (n + 1) (set l n x) ≡ take n l ++ (x ∷ [])
@@ -14,9 +14,6 @@ one_more l n x h = rw (add-one n) (take-suc-set l n x h)
 -- no word
 pub same_log : (room : ℕ) (l : List ℕ) (n : ℕ) → n ≤ room → Grows room l n l n
 same_log room l n h = record { more = omega arith; fits = h; rest = refl }
-
-pub same_count : {n n' : ℕ} (room : ℕ) (l : List ℕ) → n ≤ room → n' ≡ n → Grows room l n l n'
-same_count room l h e = record { more = omega arith; fits = omega arith; rest = refl }
 
 -- one word
 pub one_word : (room : ℕ) (l : List ℕ) (n x : ℕ) → n < room → Grows room l n (set l n x) (n + 1)
@@ -36,3 +33,15 @@ then_grows {room} {n₀} {n₁} {n₂} {l₀} {l₁} {l₂} g h = record {
       where
         back : (n k : ℕ) → n ≤ k → n + (k - n) ≡ k
         back n k h = omega arith
+
+-- Where the first words of a log alone were lent on, what they then hold stands before what was beyond them.
+pub joined : {n n' : ℕ} (room : ℕ) (l l' : List ℕ) → room ≤ length l → length l' ≡ room → Grows room (take room l) n l' n' → Grows room l n (l' ++ drop room l) n'
+joined {n} {n'} room l l' h e g = record {
+  more = g.more;
+  fits = g.fits;
+  rest =
+      drop-append-le n' l' (drop room l) (omega (arith, g.fits))
+      ∙ ap (λ (x : List ℕ). x ++ drop room l) g.rest
+      ∙ sym (drop-append-le n' (take room l) (drop room l) (omega (arith, g.fits, length-take-le room l h)))
+      ∙ ap (drop n') (take-append-drop room l);
+}

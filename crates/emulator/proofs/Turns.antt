@@ -1,31 +1,19 @@
 -- A run, one step at a time.
-use Prim.Native.Nat.{ℕ, suc, ◌+◌, ◌-◌, ◌%◌, ◌<◌, ◌≤◌}
-use mathlib.Core.Path.{◌≡◌, sym, ◌∙◌, ap, subst}
-use mathlib.Core.Bool.{Bool, true, false}
+use Prim.Native.Nat.{ℕ, suc, ◌+◌, ◌-◌, ◌<◌, ◌≤◌}
+use mathlib.Core.Path.{◌≡◌, refl, sym, ◌∙◌, ap, subst}
+use mathlib.Core.Bool.{true, false}
 use mathlib.Core.List.{List}
 use native.Mathlib.Omega.{arith}
 use native.Mathlib.Nat.{add_assoc}
-use lib.Dec.{T, leb, eqb}
-use borrow.Author.Tests.{ltb-true}
-use Rattle.word.specs.Choice.{both}
 use Rattle.processor.specs.declared.Status.{Status}
 use Rattle.processor.specs.declared.Status.TheVariants.{Going, Limit}
-use Rattle.processor.specs.Machine.{Machine, state, code_start, memory_bytes}
+use Rattle.processor.specs.Machine.{Machine, state}
 use Rattle.processor.specs.Execute.{halt}
-use Rattle.processor.specs.Run.{in_code, step_of, is_going, counted, run_of, Run}
-use Rattle.processor.specs.Image.{longest_code}
+use Rattle.processor.specs.Run.{step_of, is_going, counted, run_of, Run}
 use Rattle.processor.proofs.Onward.{going_is}
-
--- where an instruction may start, its word lies in memory
-pub fetched : (size pc : ℕ) → size ≤ longest_code → in_code size pc ≡ true → pc + 4 ≤ memory_bytes
-unfolding in_code
-fetched size pc h e =
-    let below : pc < code_start + size = ltb-true _ _ (second (leb code_start pc) _ (second (eqb (pc % 4) 0) _ e)) in
-    omega arith
-  where
-    second : (a b : Bool) → both a b ≡ true → b ≡ true
-    second true b e = e
-    second false b e = absurd (subst T (sym e) tt)
+use Rattle.emulator.specs.declared.stop.Stop.{Stop}
+use Rattle.emulator.specs.declared.stop.Stop.TheVariants as stops
+use Rattle.emulator.specs.Stands.{status_of}
 
 -- After n of the limit's steps, and those before the run, the rest of the run is the whole.
 module _ (size room limit before n : ℕ) (m : Machine) (r : List ℕ) (p : ℕ) (mm l : List ℕ) (st : Status) (all : Run) (h : n < limit)
@@ -48,6 +36,12 @@ module _ (size room limit before n : ℕ) (m : Machine) (r : List ℕ) (p : ℕ)
   pub ended : is_going st ≡ false → all ≡ record { machine = state r p mm l st; steps = before + n + counted st }
   unfolding run_of
   ended g = sym (rw (← e, g) at opened)
+
+-- what stops a run is no going on
+pub no_going : (stop : Stop) → is_going (status_of stop) ≡ false
+no_going stops.Exit = refl
+no_going (stops.Trap number) = refl
+no_going (stops.Fault number) = refl
 
 -- the limit
 pub stopped : (size room limit before n : ℕ) (m : Machine) (all : Run) → limit ≤ n → run_of size room (limit - n) m (before + n) ≡ all

@@ -1,7 +1,10 @@
 // The image (document 03 §5): what a run of it is asked for, memory at its start (§1), and its run.
+#![tactic(auto, unfolding(processor::specs::Machine::placed, processor::specs::Machine::zeros, processor::specs::Machine::start_memory, processor::specs::Image::fits, processor::specs::Image::answer_of, processor::specs::Image::run_image, processor::specs::Machine::start_of))]
+
 ghost use Rattle.std.specs.Prelude.{◌≡◌, ◌+◌, ◌≤◌, ◌<◌, ◌^◌, length};
 ghost use Rattle.processor.specs.Machine.{register_count, memory_bytes, zeros, placed, start_memory};
 ghost use Rattle.processor.specs.Image.{longest_code, longest_input, fits as fits_of, answer_of, run_image};
+ghost use Rattle.emulator.specs.Refusal.{answer_number};
 ghost use Rattle.emulator.specs.Stands.{stands, Grows};
 
 use crate::run::{Ended, run};
@@ -10,13 +13,29 @@ use crate::run::{Ended, run};
 pub fn whole_words(most: usize, size: usize) -> bool
     ensures { result ≡ fits_of most size }
 {
-    if size % 4 != 0 {
-        return false;
-    }
-    size <= most
+    size % 4 == 0 && size <= most
 }
 
-// The answer to what is lent, by its sizes: 0, or that of the refusal.
+// Why a run is refused (document 03 §5). The tool chain has refusals of texts besides, which a part may not name.
+#[derive(Clone, Copy, Debug, PartialEq, Eq)]
+pub enum Refusal {
+    Code = 4,
+    Input = 5,
+    Room = 6,
+}
+
+impl Refusal {
+    ghost use Rattle.emulator.specs.Refusal.{number_of};
+
+    // The number of the answer.
+    pub fn number(self) -> u32
+        ensures { result ≡ number_of self }
+    {
+        self as u32
+    }
+}
+
+// The answer to what is lent, by its sizes: the first of the refusals that applies, or none. They are what document 03 §5 speaks of, once each.
 pub fn answer(
     code: usize,
     input: usize,
@@ -24,47 +43,19 @@ pub fn answer(
     registers: usize,
     log: usize,
     room: usize,
-) -> u32
-    ensures { result ≡ answer_of (record { code = code; input = input; memory = memory; registers = registers; log = log; room = room }) }
+) -> Result<(), Refusal>
+    ensures { answer_number result ≡ answer_of (record { code = code; input = input; memory = memory; registers = registers; log = log; room = room }) }
 {
-    if whole_words(524288, code) {
-        if whole_words(0x100000, input) {
-            if memory < 0x200000 {
-                return 6;
-            }
-            if registers < 32 {
-                return 6;
-            }
-            if log < room {
-                return 6;
-            }
-            return 0;
-        }
-        return 5;
+    if !whole_words(524288, code) {
+        return Err(Refusal::Code);
     }
-    4
-}
-
-// Bytes of 0.
-pub fn clear(bytes: &mut [u8])
-    ensures { bytes.new ≡ zeros (length bytes.old) }
-{
-    let mut i: usize = 0;
-    while i < bytes.len() {
-        bytes[i] = 0;
-        i += 1;
+    if !whole_words(0x100000, input) {
+        return Err(Refusal::Input);
     }
-}
-
-// Words of 0.
-pub fn clear_words(words: &mut [u32])
-    ensures { words.new ≡ zeros (length words.old) }
-{
-    let mut i: usize = 0;
-    while i < words.len() {
-        words[i] = 0;
-        i += 1;
+    if memory < 0x200000 || registers < 32 || log < room {
+        return Err(Refusal::Room);
     }
+    Ok(())
 }
 
 // Bytes put into memory, from `at` on.
@@ -72,11 +63,7 @@ pub fn place(memory: &mut [u8], at: usize, bytes: &[u8])
     requires { at + length bytes.now ≤ length memory.old }
     ensures { memory.new ≡ placed memory.old at bytes.now }
 {
-    let mut j: usize = 0;
-    while j < bytes.len() {
-        memory[at + j] = bytes[j];
-        j += 1;
-    }
+    memory[at..at + bytes.len()].copy_from_slice(bytes);
 }
 
 // Memory at the start.
@@ -84,7 +71,7 @@ pub fn start(code: &[u8], input: &[u8], memory: &mut [u8])
     requires { (length memory.old ≡ memory_bytes) × (length code.now ≤ longest_code) × (length input.now ≤ longest_input) }
     ensures { memory.new ≡ start_memory code.now input.now }
 {
-    clear(memory);
+    memory.fill(0);
     place(memory, 0x1000, code);
     place(memory, 0x100000, input);
 }
@@ -104,7 +91,7 @@ pub fn run_image(
     ensures grows { Grows room log.old 0 log.new result.logged }
 {
     start(code, input, memory);
-    clear_words(registers);
+    registers.fill(0);
     run(
         memory,
         registers,

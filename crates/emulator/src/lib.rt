@@ -4,7 +4,8 @@
 
 pub mod registers; // x0 to x31
 pub mod memory; // bytes, halves and words of memory
-pub mod values; // what an operation gives, by the numbers of its row
+pub mod values; // what an operation gives, and whether a condition holds
+pub mod stop; // how an instruction stops a run
 pub mod rows; // the rows of the table, carried out
 pub mod run; // a step, and a run of them up to a limit
 pub mod image; // an image, from lent buffers to where its run ended

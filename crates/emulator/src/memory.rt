@@ -1,18 +1,24 @@
 // Memory: 2 MiB of bytes that the caller lends, multi-byte items lowest byte first (document 03 §1), and what loads and stores do to it (§3, §4).
-ghost use Rattle.std.specs.Prelude.{◌≡◌, ◌+◌, ◌<◌, ◌≤◌, length};
-ghost use Rattle.processor.specs.Machine.{memory_bytes, byte_at, half_at, word_at};
+#![tactic(auto, unfolding(processor::specs::Machine::half_at, processor::specs::Machine::word_at, processor::specs::Machine::placed, processor::specs::Execute::reaches, processor::specs::Execute::read_at, processor::specs::Execute::write_at))]
+
+ghost use Rattle.std.specs.Prelude.{◌≡◌, ◌+◌, ◌<◌, ◌≤◌, length, take};
+ghost use Rattle.word.specs.Bytes.{bytes_of};
+ghost use Rattle.processor.specs.Machine.{byte_at, half_at, word_at, placed};
 ghost use Rattle.processor.specs.Execute.{size_of, reaches as reaches_of, read_at, write_at};
 
 use processor::Width;
 use word::bits::sign_extend;
-use word::bytes::{byte0, byte1, byte2, byte3, word_of};
+use word::bytes::{bytes_of, word_of};
 
-// A byte as a word.
+// The whole of it.
+pub type Memory = [u8; 0x200000];
+
+// A byte as a word. This and the next two are no one function with a size: document 03 §1 defines the three, and each is a line.
 pub fn byte_at(memory: &[u8], i: usize) -> u32
     requires { i < length memory.now }
     ensures { (result ≡ byte_at memory.now i) × (result < 256) }
 {
-    memory[i] as u32
+    u32::from(memory[i])
 }
 
 // Two bytes as a word.
@@ -35,19 +41,12 @@ pub fn word_at(memory: &[u8], i: usize) -> u32
 pub fn reaches(s: Width, at: u32) -> bool
     ensures { result ≡ reaches_of s at }
 {
-    if at < 0x100000 {
-        return false;
-    }
-    if 0x200000 <= at {
-        return false;
-    }
-    match s {
-        Width::Byte => true,
-        Width::Half => at % 2 == 0,
+    let aligned = match s {
+        Width::Byte | Width::ByteU => true,
+        Width::Half | Width::HalfU => at % 2 == 0,
         Width::Word => at % 4 == 0,
-        Width::ByteU => true,
-        Width::HalfU => at % 2 == 0,
-    }
+    };
+    aligned && (0x100000..0x200000).contains(&at)
 }
 
 // What a load gives, with the sign extended where its width says so.
@@ -64,21 +63,12 @@ pub fn read_at(s: Width, memory: &[u8], i: usize) -> u32
     }
 }
 
-// The lowest byte of v, stored.
-pub fn put_byte(memory: &mut [u8], i: usize, v: u32)
-    requires { i + 1 ≤ length memory.old }
-    ensures { memory.new ≡ write_at Width.Byte memory.old i v }
+// The lower bytes of v, as many as N, stored.
+pub fn put<const N: usize>(memory: &mut [u8], i: usize, v: u32)
+    requires { (N ≤ 4) × (i + N ≤ length memory.old) }
+    ensures { memory.new ≡ placed memory.old i (take N (bytes_of v)) }
 {
-    memory[i] = byte0(v);
-}
-
-// The two lower bytes of v, stored.
-pub fn put_half(memory: &mut [u8], i: usize, v: u32)
-    requires { i + 2 ≤ length memory.old }
-    ensures { memory.new ≡ write_at Width.Half memory.old i v }
-{
-    memory[i] = byte0(v);
-    memory[i + 1] = byte1(v);
+    memory[i..i + N].copy_from_slice(&bytes_of(v)[..N]);
 }
 
 // The four bytes of v, stored.
@@ -86,10 +76,7 @@ pub fn put_word(memory: &mut [u8], i: usize, v: u32)
     requires { i + 4 ≤ length memory.old }
     ensures { memory.new ≡ write_at Width.Word memory.old i v }
 {
-    memory[i] = byte0(v);
-    memory[i + 1] = byte1(v);
-    memory[i + 2] = byte2(v);
-    memory[i + 3] = byte3(v);
+    put::<4>(memory, i, v);
 }
 
 // What a store does.
@@ -98,10 +85,8 @@ pub fn write_at(s: Width, memory: &mut [u8], i: usize, v: u32)
     ensures { memory.new ≡ write_at s memory.old i v }
 {
     match s {
-        Width::Byte => put_byte(memory, i, v),
-        Width::Half => put_half(memory, i, v),
+        Width::Byte | Width::ByteU => put::<1>(memory, i, v),
+        Width::Half | Width::HalfU => put::<2>(memory, i, v),
         Width::Word => put_word(memory, i, v),
-        Width::ByteU => put_byte(memory, i, v),
-        Width::HalfU => put_half(memory, i, v),
     }
 }

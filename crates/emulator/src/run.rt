@@ -1,77 +1,66 @@
 // A step and a run (document 03 §4).
+#![tactic(auto, unfolding(processor::specs::Instructions::decode_of, processor::specs::Instructions::decode_system, processor::specs::Execute::exec_of, processor::specs::Run::in_code, processor::specs::Run::step_of), using(crate::proofs::Log::same_log))]
+
 ghost use Rattle.std.specs.Prelude.{◌≡◌, List, ℕ, ◌+◌, ◌≤◌, ◌<◌, ◌^◌, length};
 ghost use Rattle.processor.specs.Instructions.{decode_of, decode_system};
 ghost use Rattle.processor.specs.Machine.{register_count, memory_bytes};
 ghost use Rattle.processor.specs.Execute.{exec_of};
-ghost use Rattle.processor.specs.Run.{in_code, is_going, counted as count_of, step_of, run_of};
+ghost use Rattle.processor.specs.Run.{in_code, counted as count_of, step_of, run_of};
 ghost use Rattle.processor.specs.Image.{longest_code};
-ghost use Rattle.emulator.specs.Stands.{stands, Grows};
+ghost use Rattle.emulator.specs.Stands.{stands, pc_after, status_after, Grows};
 
-use crate::memory::word_at;
-use crate::rows::{After, auipc, branch, ecall, fence, jal, jalr, load, lui, op, op_imm, store};
+use crate::memory::{Memory, word_at};
+use crate::registers::Registers;
+use crate::rows::{auipc, branch, ecall, fence, jal, jalr, load, lui, op, op_imm, store};
+use crate::stop::Stop;
 use processor::Status;
+use processor::columns::opcode;
 
 // 73: ecall and ebreak are one word each.
 pub fn system(
     w: u32,
-    registers: &[u32],
+    registers: &Registers,
     log: &mut [u32],
-    room: usize,
-    logged: usize,
+    logged: &mut usize,
     pc: u32,
-) -> After
-    requires { (length registers.now ≡ register_count) × (logged ≤ room) × (room ≤ length log.old) }
-    ensures by_index { (m : List ℕ) → stands registers.now result.pc m log.new result.logged result.status ≡ exec_of room (decode_system w) (stands registers.now pc m log.old logged Status.Going) }
-    ensures grows { Grows room log.old logged log.new result.logged }
+) -> Result<u32, Stop>
+    requires { logged.old ≤ length log.old }
+    ensures by_index { (m : List ℕ) → stands registers.now (pc_after pc result) m log.new logged.new (status_after result) ≡ exec_of (length log.old) (decode_system w) (stands registers.now pc m log.old logged.old Status.Going) }
+    ensures grows { Grows (length log.old) log.old logged.old log.new logged.new }
 {
-    if w == 0x00000073 {
-        return ecall(registers, log, room, logged, pc);
-    }
-    if w == 0x00100073 {
-        return After {
-            pc,
-            logged,
-            status: Status::Fault(4),
-        };
-    }
-    After {
-        pc,
-        logged,
-        status: Status::Fault(2),
+    match w {
+        0x00000073 => ecall(registers, log, logged, pc),
+        0x00100073 => Err(Stop::Fault(4)),
+        _ => Err(Stop::Fault(2)),
     }
 }
 
 // A word, carried out by the row of its opcode.
 pub fn execute(
     w: u32,
-    memory: &mut [u8],
-    registers: &mut [u32],
+    memory: &mut Memory,
+    registers: &mut Registers,
     log: &mut [u32],
-    room: usize,
-    logged: usize,
+    logged: &mut usize,
     pc: u32,
-) -> After
-    requires { (length memory.old ≡ memory_bytes) × (length registers.old ≡ register_count) × (logged ≤ room) × (room ≤ length log.old) }
-    ensures status_after { stands registers.new result.pc memory.new log.new result.logged result.status ≡ exec_of room (decode_of w) (stands registers.old pc memory.old log.old logged Status.Going) }
-    ensures grows { Grows room log.old logged log.new result.logged }
+) -> Result<u32, Stop>
+    requires { logged.old ≤ length log.old }
+    ensures status_after { stands registers.new (pc_after pc result) memory.new log.new logged.new (status_after result) ≡ exec_of (length log.old) (decode_of w) (stands registers.old pc memory.old log.old logged.old Status.Going) }
+    ensures grows { Grows (length log.old) log.old logged.old log.new logged.new }
 {
-    match w % 128 {
-        0x13 => op_imm(w, registers, logged, pc),
-        0x33 => op(w, registers, logged, pc),
-        0x63 => branch(w, registers, logged, pc),
-        0x03 => load(w, memory, registers, logged, pc),
-        0x23 => store(w, memory, registers, logged, pc),
-        0x37 => lui(w, registers, logged, pc),
-        0x17 => auipc(w, registers, logged, pc),
-        0x6f => jal(w, registers, logged, pc),
-        0x67 => jalr(w, registers, logged, pc),
-        0x0f => fence(w, logged, pc),
-        0x73 => system(w, registers, log, room, logged, pc),
-        _ => After {
-            pc,
-            logged,
-            status: Status::Fault(2),
-        },
+    match opcode(w) {
+        0x13 => op_imm(w, registers, pc),
+        0x33 => op(w, registers, pc),
+        0x63 => branch(w, registers, pc),
+        0x03 => load(w, memory, registers, pc),
+        0x23 => store(w, memory, registers, pc),
+        0x37 => lui(w, registers, pc),
+        0x17 => auipc(w, registers, pc),
+        0x6f => jal(w, registers, pc),
+        0x67 => jalr(w, registers, pc),
+        0x0f => fence(w, pc),
+        0x73 => system(w, registers, log, logged, pc),
+        _ => Err(Stop::Fault(2)),
     }
 }
 
@@ -80,52 +69,27 @@ pub fn in_code(size: u32, pc: u32) -> bool
     requires { size ≤ longest_code }
     ensures { result ≡ in_code size pc }
 {
-    if pc % 4 != 0 {
-        return false;
-    }
-    if pc < 0x1000 {
-        return false;
-    }
-    pc < 0x1000 + size
+    pc % 4 == 0 && (0x1000..0x1000 + size).contains(&pc)
 }
 
 // One step, with code of this many bytes: fault 1 comes before an instruction.
 pub fn step(
-    memory: &mut [u8],
-    registers: &mut [u32],
+    memory: &mut Memory,
+    registers: &mut Registers,
     log: &mut [u32],
-    room: usize,
     size: u32,
-    logged: usize,
+    logged: &mut usize,
     pc: u32,
-) -> After
-    requires { (length memory.old ≡ memory_bytes) × (length registers.old ≡ register_count) × (logged ≤ room) × (room ≤ length log.old) × (size ≤ longest_code) }
-    ensures status_after { stands registers.new result.pc memory.new log.new result.logged result.status ≡ step_of size room (stands registers.old pc memory.old log.old logged Status.Going) }
-    ensures grows { Grows room log.old logged log.new result.logged }
+) -> Result<u32, Stop>
+    requires { (logged.old ≤ length log.old) × (size ≤ longest_code) }
+    ensures status_after { stands registers.new (pc_after pc result) memory.new log.new logged.new (status_after result) ≡ step_of size (length log.old) (stands registers.old pc memory.old log.old logged.old Status.Going) }
+    ensures grows { Grows (length log.old) log.old logged.old log.new logged.new }
 {
-    if in_code(size, pc) {
-        let w = word_at(memory, pc as usize);
-        execute(w, memory, registers, log, room, logged, pc)
-    } else {
-        After {
-            pc,
-            logged,
-            status: Status::Fault(1),
-        }
+    if !in_code(size, pc) {
+        return Err(Stop::Fault(1));
     }
-}
-
-// Whether the run goes on.
-pub fn going(s: Status) -> bool
-    ensures { result ≡ is_going s }
-{
-    match s {
-        Status::Going => true,
-        Status::Exit => false,
-        Status::Trap(_) => false,
-        Status::Fault(_) => false,
-        Status::Limit => false,
-    }
+    let w = word_at(memory, pc as usize);
+    execute(w, memory, registers, log, logged, pc)
 }
 
 // The steps that a stop counts.
@@ -133,11 +97,8 @@ pub fn counted(s: Status) -> u64
     ensures { (result ≡ count_of s) × (result ≤ 1) }
 {
     match s {
-        Status::Going => 1,
-        Status::Exit => 1,
-        Status::Trap(_) => 1,
-        Status::Fault(n) => if n == 1 { 0 } else { 1 },
-        Status::Limit => 0,
+        Status::Fault(1) | Status::Limit => 0,
+        _ => 1,
     }
 }
 
@@ -150,7 +111,8 @@ pub struct Ended {
     pub status: Status,
 }
 
-// A run of at most so many steps, after those before it.
+// A run of at most so many steps, after those before it. Its callers, C among them, lend slices: their lengths are asked for here, once, and
+// what is below takes arrays. They are parameters and no struct: a row is lent those alone that it may touch, which its clause then needn't say of the others.
 pub fn run(
     memory: &mut [u8],
     registers: &mut [u32],
@@ -166,29 +128,33 @@ pub fn run(
     ensures before_value { run_of size room limit (stands registers.old pc0 memory.old log.old logged0 Status.Going) before ≡ record { machine = stands registers.new result.pc memory.new log.new result.logged result.status; steps = result.steps } }
     ensures grows { Grows room log.old logged0 log.new result.logged }
 {
+    let Some(memory) = memory.as_mut_array::<0x200000>() else {
+        unreachable!()
+    };
+    let Some(registers) = registers.as_mut_array::<32>() else {
+        unreachable!()
+    };
+    let log = &mut log[..room];
     let mut pc = pc0;
     let mut logged = logged0;
-    let mut n: u64 = 0;
-    while n < limit {
-        let a = step(memory, registers, log, room, size, logged, pc);
-        let status = a.status;
-        pc = a.pc;
-        logged = a.logged;
-        if going(status) {
-            n += 1;
-        } else {
-            return Ended {
-                pc,
-                logged,
-                steps: before + n + counted(status),
-                status,
-            };
+    for n in 0..limit {
+        match step(memory, registers, log, size, &mut logged, pc) {
+            Ok(next) => pc = next,
+            Err(stop) => {
+                let status = Status::from(stop);
+                return Ended {
+                    pc,
+                    logged,
+                    steps: before + n + counted(status),
+                    status,
+                };
+            }
         }
     }
     Ended {
         pc,
         logged,
-        steps: before + n,
+        steps: before + limit,
         status: Status::Limit,
     }
 }

@@ -1,25 +1,15 @@
-// What the operations of document 03 §3's table give, found by the numbers of its second column.
-ghost use Rattle.std.specs.Prelude.{◌≡◌};
-ghost use Rattle.word.specs.Choice.{pick};
-ghost use Rattle.processor.specs.Formats.{funct3, funct7, rs2, imm_i};
-ghost use Rattle.processor.specs.Instructions.{key, alu_key, cond_key, operations, immediates, shifts, branches, find};
-ghost use Rattle.processor.specs.Execute.{alu_of};
-ghost use Rattle.emulator.specs.Fused.{value_or, chosen};
+// What the operations and conditions of document 03 §3's table give.
+#![tactic(auto, unfolding(processor::specs::Execute::alu_of))]
 
-use processor::Alu;
-use processor::immediates::imm_i;
+ghost use Rattle.std.specs.Prelude.{◌≡◌};
+ghost use Rattle.processor.specs.Execute.{alu_of, cond_of};
+
+use processor::{Alu, Cond};
 use word::arithmetic::{add, mul, sub};
 use word::bits::{and, or, shift_left, shift_right, shift_right_signed, xor};
 use word::division::{quotient_signed, quotient_unsigned, remainder_signed, remainder_unsigned};
 use word::order::{bit_of, less_signed, less_unsigned};
 use word::product::{upper_mixed, upper_signed, upper_unsigned};
-
-// A value, or none where the table has no such row.
-#[derive(Clone, Copy)]
-pub enum Value {
-    Is(u32),
-    None,
-}
 
 // "Register shifts use the low 5 bits."
 pub fn sll(a: u32, b: u32) -> u32
@@ -53,12 +43,12 @@ pub fn sltu(a: u32, b: u32) -> u32
     bit_of(less_unsigned(a, b))
 }
 
-// "By zero: div and divu give all ones, rem and remu the dividend."
+// "By zero: div and divu give all ones, rem and remu the dividend." Each is a row of the table, with an operation of its own.
 pub fn div(a: u32, b: u32) -> u32
     ensures { result ≡ alu_of Alu.Div a b }
 {
     if b == 0 {
-        4294967295
+        u32::MAX
     } else {
         quotient_signed(a, b)
     }
@@ -68,7 +58,7 @@ pub fn divu(a: u32, b: u32) -> u32
     ensures { result ≡ alu_of Alu.Divu a b }
 {
     if b == 0 {
-        4294967295
+        u32::MAX
     } else {
         quotient_unsigned(a, b)
     }
@@ -86,80 +76,44 @@ pub fn remu(a: u32, b: u32) -> u32
     if b == 0 { a } else { remainder_unsigned(a, b) }
 }
 
-// Of two registers, by funct7 and funct3 in one number.
-pub fn operation(k: u32, a: u32, b: u32) -> Value
-    ensures { result ≡ value_or (find alu_key operations k) a b Value.None }
+// What an operation gives.
+#[inline(always)]
+pub fn value(o: Alu, a: u32, b: u32) -> u32
+    ensures { result ≡ alu_of o a b }
 {
-    match k {
-        0 => Value::Is(add(a, b)),
-        256 => Value::Is(sub(a, b)),
-        1 => Value::Is(sll(a, b)),
-        2 => Value::Is(slt(a, b)),
-        3 => Value::Is(sltu(a, b)),
-        4 => Value::Is(xor(a, b)),
-        5 => Value::Is(srl(a, b)),
-        261 => Value::Is(sra(a, b)),
-        6 => Value::Is(or(a, b)),
-        7 => Value::Is(and(a, b)),
-        8 => Value::Is(mul(a, b)),
-        9 => Value::Is(upper_signed(a, b)),
-        10 => Value::Is(upper_mixed(a, b)),
-        11 => Value::Is(upper_unsigned(a, b)),
-        12 => Value::Is(div(a, b)),
-        13 => Value::Is(divu(a, b)),
-        14 => Value::Is(rem(a, b)),
-        15 => Value::Is(remu(a, b)),
-        _ => Value::None,
+    match o {
+        Alu::Add => add(a, b),
+        Alu::Sub => sub(a, b),
+        Alu::Sll => sll(a, b),
+        Alu::Slt => slt(a, b),
+        Alu::Sltu => sltu(a, b),
+        Alu::Xor => xor(a, b),
+        Alu::Srl => srl(a, b),
+        Alu::Sra => sra(a, b),
+        Alu::Or => or(a, b),
+        Alu::And => and(a, b),
+        Alu::Mul => mul(a, b),
+        Alu::Mulh => upper_signed(a, b),
+        Alu::Mulhsu => upper_mixed(a, b),
+        Alu::Mulhu => upper_unsigned(a, b),
+        Alu::Div => div(a, b),
+        Alu::Divu => divu(a, b),
+        Alu::Rem => rem(a, b),
+        Alu::Remu => remu(a, b),
     }
 }
 
-// Of a register and an amount, by funct7 and funct3 in one number.
-pub fn shift(k: u32, a: u32, amount: u32) -> Value
-    ensures { result ≡ value_or (find alu_key shifts k) a amount Value.None }
+// Whether a branch's condition holds.
+#[tactic(auto, unfolding(processor::specs::Execute::cond_of))]
+pub fn holds(c: Cond, a: u32, b: u32) -> bool
+    ensures { result ≡ cond_of c a b }
 {
-    match k {
-        1 => Value::Is(sll(a, amount)),
-        5 => Value::Is(srl(a, amount)),
-        261 => Value::Is(sra(a, amount)),
-        _ => Value::None,
-    }
-}
-
-// Of a register and the word's immediate, by funct3; the others are shifts.
-pub fn immediate(w: u32, a: u32) -> Value
-    ensures { result ≡ value_or (find alu_key immediates (funct3 w)) a (imm_i w) (value_or (find alu_key shifts (key (funct3 w) (funct7 w))) a (rs2 w) Value.None) }
-{
-    let imm = imm_i(w);
-    let f3 = w / 4096 % 8;
-    match f3 {
-        0 => Value::Is(add(a, imm)),
-        2 => Value::Is(slt(a, imm)),
-        3 => Value::Is(sltu(a, imm)),
-        4 => Value::Is(xor(a, imm)),
-        6 => Value::Is(or(a, imm)),
-        7 => Value::Is(and(a, imm)),
-        _ => shift(w / 33554432 % 128 * 8 + f3, a, w / 1048576 % 32),
-    }
-}
-
-// One of two.
-pub fn choose(so: bool, p: u32, q: u32) -> u32
-    ensures { result ≡ pick so p q }
-{
-    if so { p } else { q }
-}
-
-// Where a branch goes, by funct3: to p if so, else to q.
-pub fn branch_to(f3: u32, a: u32, b: u32, p: u32, q: u32) -> Value
-    ensures { result ≡ chosen (find cond_key branches f3) a b p q }
-{
-    match f3 {
-        0 => Value::Is(choose(a == b, p, q)),
-        1 => Value::Is(choose(a != b, p, q)),
-        4 => Value::Is(choose(less_signed(a, b), p, q)),
-        5 => Value::Is(choose(!less_signed(a, b), p, q)),
-        6 => Value::Is(choose(less_unsigned(a, b), p, q)),
-        7 => Value::Is(choose(!less_unsigned(a, b), p, q)),
-        _ => Value::None,
+    match c {
+        Cond::Eq => a == b,
+        Cond::Ne => a != b,
+        Cond::Lt => less_signed(a, b),
+        Cond::Ge => !less_signed(a, b),
+        Cond::Ltu => less_unsigned(a, b),
+        Cond::Geu => !less_unsigned(a, b),
     }
 }

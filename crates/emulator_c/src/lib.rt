@@ -24,7 +24,7 @@ pub struct Columns {
     pub imm: u32,
 }
 
-// The columns, in the order of the struct.
+// The columns, in the order of the struct: so `told` below is a table, a line for each row, which fourteen struct literals would not be.
 pub fn row(opcode: u32, key: u32, rd: u32, rs1: u32, rs2: u32, imm: u32) -> Columns
     ensures { result ≡ record { opcode = opcode; key = key; rd = rd; rs1 = rs1; rs2 = rs2; imm = imm } }
 {
@@ -60,7 +60,7 @@ pub fn told(i: Instr) -> Columns
     }
 }
 
-// The instruction that a word is, as numbers.
+// The instruction that a word is, as numbers. What it tells goes through `&mut`s, which the C interface needs.
 pub fn panel_decode(
     w: u32,
     opcode: &mut u32,
@@ -88,7 +88,7 @@ pub fn panel_recode(w: u32) -> u32
     encode(decode(w))
 }
 
-// How a run stands, as a number.
+// How a run stands, as a number, which the C interface needs.
 pub fn stop(s: Status) -> u32
     ensures { result ≡ stop_of s }
 {

@@ -5,3 +5,4 @@ pub mod Decode
 pub mod Writing
 pub mod Run
 pub mod Examples
+pub mod Tables

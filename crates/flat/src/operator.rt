@@ -1,27 +1,63 @@
-// With one side.
-pub const NEGATE: u32 = 0;
+ghost use Rattle.flat.specs.Numbers.{Decodes, unary_number, strict_number};
 
-pub const NOT: u32 = 1;
+use crate::UnknownNumber;
 
-// With two sides that are both evaluated.
-pub const EQ: u32 = 0;
+// An operator with one side. Its number in words is `Unary::Not as u32`.
+#[derive(Clone, Copy, Debug, PartialEq, Eq)]
+pub enum Unary {
+    Negate,
+    Not,
+}
 
-pub const NE: u32 = 1;
+impl TryFrom<u32> for Unary {
+    type Error = UnknownNumber;
 
-pub const LT: u32 = 2;
+    ghost try_from_gives = { Decodes unary_number 1 };
 
-pub const LE: u32 = 3;
+    fn try_from(number: u32) -> Result<Self, UnknownNumber> {
+        match number {
+            0 => Ok(Unary::Negate),
+            1 => Ok(Unary::Not),
+            _ => Err(UnknownNumber(number)),
+        }
+    }
+}
 
-pub const GT: u32 = 4;
+// An operator with two sides that are both evaluated. Its number in words is `Strict::Rem as u32`.
+#[derive(Clone, Copy, Debug, PartialEq, Eq)]
+pub enum Strict {
+    Eq,
+    Ne,
+    Lt,
+    Le,
+    Gt,
+    Ge,
+    Add,
+    Sub,
+    Mul,
+    Div,
+    Rem,
+}
 
-pub const GE: u32 = 5;
+impl TryFrom<u32> for Strict {
+    type Error = UnknownNumber;
 
-pub const ADD: u32 = 6;
+    ghost try_from_gives = { Decodes strict_number 10 };
 
-pub const SUB: u32 = 7;
-
-pub const MUL: u32 = 8;
-
-pub const DIV: u32 = 9;
-
-pub const REM: u32 = 10;
+    fn try_from(number: u32) -> Result<Self, UnknownNumber> {
+        match number {
+            0 => Ok(Strict::Eq),
+            1 => Ok(Strict::Ne),
+            2 => Ok(Strict::Lt),
+            3 => Ok(Strict::Le),
+            4 => Ok(Strict::Gt),
+            5 => Ok(Strict::Ge),
+            6 => Ok(Strict::Add),
+            7 => Ok(Strict::Sub),
+            8 => Ok(Strict::Mul),
+            9 => Ok(Strict::Div),
+            10 => Ok(Strict::Rem),
+            _ => Err(UnknownNumber(number)),
+        }
+    }
+}

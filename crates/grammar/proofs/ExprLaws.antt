@@ -1,5 +1,5 @@
 -- Each way through the functions of expressions is a clause of the parser.
-use mathlib.Core.Path.{◌≡◌, refl, sym, ap, ◌∙◌}
+use mathlib.Core.Path.{◌≡◌, refl, sym, ap, subst, ◌∙◌}
 use mathlib.Core.Bool.{Bool, true, false}
 use mathlib.Core.List.{List, [], ◌∷◌, append-nil}
 use Prim.Native.Nat.{ℕ, zero, suc, ◌+◌, ◌*◌, ◌-◌, ◌/◌, ◌≤◌, ◌<◌}
@@ -8,18 +8,29 @@ use lib.Dec.{eqb}
 use lib.Seq.{sets}
 use borrow.Author.Tests.{lt-ltb, le-ltb, eq-eqb, ne_eqb}
 use Rattle.word.specs.Choice.{pick}
-use Rattle.language.specs.Tree.{Place, Binary, Expr, Args}
+use Rattle.language.specs.Tree.{Place, Strict, Binary, Expr, Args}
 use Rattle.language.specs.Tokens.{Sign}
-use Rattle.language.specs.Grammar.{operators}
 use Rattle.tokens.specs.Kinds.{sign_kind, word_kind}
-use Rattle.grammar.specs.Parse.{Out, Out.ok, Out.bad, next, map, kind_in, place_in, name_in, number_in, kind, place_of, level_of, means_of, level_in, most, Tail, grow, rest_of, exprs_of, args_of, arguments_of, enclosed_of, named_of, unary_of, primary_of, levelled}
-use Rattle.grammar.specs.Flat.{item, size, arg_count, expr_words, args_words, right_words, tail_words, unary_number, truth_number}
-use Rattle.grammar.specs.Told.{Row, field_of, Holds, Form, Found, Told, Right, operand_of, unary_at, item_kind, item_number, expr_form, right_form, tail_form, args_form}
-use Rattle.grammar.specs.declared.Got.{Got}
-use Rattle.grammar.specs.declared.Got.TheVariants.{Done, Fault}
+use Rattle.grammar.specs.Parse.{Out, Out.ok, Out.bad, next, map, kind_in, place_in, name_in, number_in, kind, place_of, level_of, means_of, most, Tail, grow, rest_of, exprs_of, args_of, arguments_of, enclosed_of, named_of, unary_of, primary_of, levelled}
+use Rattle.grammar.specs.Flat.{item, size, arg_count, expr_words, args_words, right_words, tail_words, unary_number, strict_number, truth_number}
+use Rattle.flat.specs.Numbers as N
+use denote.Enum.Declared.{tag_of}
+use Rattle.flat.specs.contracts.operator.Unary as UnaryProofs
+use Rattle.flat.specs.contracts.operator.Strict as StrictProofs
+use Rattle.flat.specs.declared.operator.Unary as U
+use Rattle.flat.specs.declared.operator.Unary.TheVariants as unary
+use Rattle.flat.specs.declared.operator.Strict as O
+use Rattle.flat.specs.declared.operator.Strict.TheVariants as strict
+use Rattle.grammar.specs.declared.operators.Operation.{Operation}
+use Rattle.grammar.specs.declared.operators.Operation.TheVariants as operation
+use Rattle.grammar.specs.Operator.{binary_of}
+use Rattle.grammar.specs.declared.input.Read as input
+use Rattle.std.specs.Prelude.{Result}
+use mathlib.Core.Logic.{inl, inr}
+use Rattle.grammar.specs.Told.{IsNoKind, Row, field_of, Holds, Form, Found, Told, Right, operand_of, unary_at, item_kind, item_number, expr_form, right_form, tail_form, args_form}
 use Rattle.grammar.proofs.FlatLaws.{expr_linear, args_linear, right_linear, grow_words, expr_length_lem}
 use Rattle.grammar.proofs.Complete.{step, chain_step}
-use Rattle.grammar.proofs.Steps.{fault, same, leaf, close, front, seq, Going, goes_done, goes_fault, goes_on, kind_is, kind_not, kind_eq, name_length, number_is, place_is}
+use Rattle.grammar.proofs.Steps.{Got, Done, Fault, fault, same, leaf, close, front, seq, Going, begun, goes_done, goes_fault, goes_on, kind_is, kind_not, kind_eq, name_length, number_is, place_is}
 
 -- a part that fails
 pub stop : {A B : Type 0} {K : Form B} {f : Row → Out A} {k : Row → Out B} {ts : List ℕ} {n i at p : ℕ} {xs ys : List ℕ} (g : Row → A → ℕ → Out B) → ((tok : Row) → Holds tok ts n → f tok ≡ bad p) → ((tok : Row) → Holds tok ts n → k tok ≡ next (f tok) (g tok)) → Told K k ts n xs i at (Fault p) ys
@@ -73,6 +84,9 @@ module _ (h l d m i : ℕ) where
   rest_on tok H z y q e =
       rest_step tok z ∙ ap (λ (b : Bool). pick b (next (operand_of tok (levelled tok h) l d i) (λ r j. map (more r) (rest_of tok (levelled tok h) (m - 1) l d j))) (ok Tail.done i)) (eq-eqb (level_of (kind tok i)) l (ap level_of (sym (H.kind i) ∙ sym y) ∙ sym q ∙ e))
 
+  pub rest_begun : {m' at n : ℕ} {ts xs : List ℕ} → i ≤ n → m ≡ m' → Going tail_form (λ tok. rest_of tok (levelled tok h) m l d i) (λ tok. rest_of tok (levelled tok h) m' l d i) ts n xs i at i at 0 xs
+  rest_begun {at = at} {n = n} {ts = ts} {xs = xs} b q = subst (λ (k : ℕ). Going tail_form (λ tok. rest_of tok (levelled tok h) m l d i) (λ tok. rest_of tok (levelled tok h) k l d i) ts n xs i at i at 0 xs) q (begun b)
+
   module _ {ts : List ℕ} {n : ℕ} {f : Row → Out Tail} {s start at : ℕ} {xs ys : List ℕ} (a : Going tail_form f (λ tok. rest_of tok (levelled tok h) m l d i) ts n xs s start i at 0 ys) where
     pub rest_stop : {k v : ℕ} → 0 < m → k ≡ field_of ts n i 0 → v ≡ level_of k → (v ≡ l → ⊥) → Told tail_form f ts n xs s start (Done i at 1) ys
     unfolding tail_words
@@ -86,16 +100,19 @@ module _ (h l d m i : ℕ) where
         let q : m ≡ 0 = omega arith in
         goes_done a (leaf (λ tok. Tail.done) [] refl (omega arith) a.within (omega arith) (omega arith) (λ tok H. (ap (λ (m : ℕ). rest_of tok (levelled tok h) m l d i) q, refl, refl))) refl (omega arith)
 
-    pub rest_bad : {k v p : ℕ} {zs : List ℕ} → 0 < m → k ≡ field_of ts n i 0 → v ≡ level_of k → v ≡ l → ((tok : Row) → Holds tok ts n → operand_of tok (levelled tok h) l d i ≡ bad p) → Told tail_form f ts n xs s start (Fault p) zs
-    rest_bad z y q e b = goes_fault a (λ tok H. rest_on tok H z y q e ∙ ap (λ (o : Out Right). next o (λ r j. map (more r) (rest_of tok (levelled tok h) (m - 1) l d j))) (b tok H))
+    pub rest_bad : {k v p : ℕ} {zs : List ℕ} → 0 < m → k ≡ field_of ts n i 0 → v ≡ level_of k → v ≡ l → ((tok : Row) → Holds tok ts n → operand_of tok (levelled tok h) v d i ≡ bad p) → Told tail_form f ts n xs s start (Fault p) zs
+    rest_bad {p = p} z y q e b =
+        goes_fault a (λ tok H. rest_on tok H z y q e ∙ ap (λ (o : Out Right). next o (λ r j. map (more r) (rest_of tok (levelled tok h) (m - 1) l d j))) (subst (λ (l : ℕ). operand_of tok (levelled tok h) l d i ≡ bad p) e (b tok H)))
 
-    pub rest_again : {k v j e c : ℕ} {zs : List ℕ} → 0 < m → k ≡ field_of ts n i 0 → v ≡ level_of k → v ≡ l → Found right_form (λ tok. operand_of tok (levelled tok h) l d i) ts n ys i at j e c zs
-        → Going tail_form f (λ tok. rest_of tok (levelled tok h) (m - 1) l d j) ts n xs s start j e 0 zs
+    pub rest_again : {k v j e c m' : ℕ} {zs : List ℕ} → m - 1 ≡ m' → 0 < m → k ≡ field_of ts n i 0 → v ≡ level_of k → v ≡ l → Found right_form (λ tok. operand_of tok (levelled tok h) v d i) ts n ys i at j e c zs
+        → Going tail_form f (λ tok. rest_of tok (levelled tok h) m' l d j) ts n xs s start j e 0 zs
     unfolding tail_words
-    rest_again z y q e b =
-        goes_on (λ tok r t. more r t) 0 a b (omega arith) b.within refl
-        (λ tok H r w. rest_on tok H z y q e ∙ ap (λ (o : Out Right). next o (λ r j. map (more r) (rest_of tok (levelled tok h) (m - 1) l d j))) w)
-        (λ tok r t. (right_linear r.place r.operator r.side (tail_words t []), refl))
+    rest_again {j = j} {e = e} {c = c} {zs = zs} w z y q t b =
+        let b' : Found right_form (λ tok. operand_of tok (levelled tok h) l d i) ts n ys i at j e c zs = subst (λ (l : ℕ). Found right_form (λ tok. operand_of tok (levelled tok h) l d i) ts n ys i at j e c zs) t b in
+        subst (λ (m : ℕ). Going tail_form f (λ tok. rest_of tok (levelled tok h) m l d j) ts n xs s start j e 0 zs) w
+        (goes_on (λ tok r t. more r t) 0 a b' (omega arith) b'.within refl
+        (λ tok H r w. rest_on tok H z y q t ∙ ap (λ (o : Out Right). next o (λ r j. map (more r) (rest_of tok (levelled tok h) (m - 1) l d j))) w)
+        (λ tok r t. (right_linear r.place r.operator r.side (tail_words t []), refl)))
 
 -- `operand`
 strict_words : (o : Binary) (p : Place) (b : Expr) (more : List ℕ) → item_kind o ≡ 5 → right_words p o b more ≡ expr_words b (item 5 p (item_number o) 0 more)
@@ -128,14 +145,14 @@ module _ (h l d i : ℕ) {ts : List ℕ} {n at k p : ℕ} {xs : List ℕ} (y : k
   unfolding operand_of
   operand_bad b = stop_map (λ tok b. right tok i b) b (λ tok H. refl)
 
-  pub operand_strict : {w v j e c e' : ℕ} {ys zs : List ℕ} → w ≡ item_kind (means_of k) → w ≡ 5 → Found expr_form (λ tok. levelled tok h (l + 1) d (i + 1)) ts n xs (i + 1) at j e c ys → v ≡ item_number (means_of k) → zs ≡ sets ys e (5 ∷ p ∷ v ∷ 0 ∷ []) → e' ≡ e + 4
+  pub operand_strict : {s : Strict} {v j e c e' : ℕ} {ys zs : List ℕ} → Binary.strict s ≡ means_of k → Found expr_form (λ tok. levelled tok h (l + 1) d (i + 1)) ts n xs (i + 1) at j e c ys → v ≡ item_number (Binary.strict s) → zs ≡ sets ys e (5 ∷ p ∷ v ∷ 0 ∷ []) → e' ≡ e + 4
       → Told right_form (λ tok. operand_of tok (levelled tok h) l d i) ts n xs i at (Done j e' 1) zs
-  unfolding operand_of
-  operand_strict {w} {v} {j} {e} q r b u s t =
+  unfolding operand_of item_kind
+  operand_strict {v = v} {j} {e} q b u s t =
       close (λ tok b. right tok i b) (5 ∷ p ∷ v ∷ 0 ∷ []) b s t b.within (omega (arith, b.small)) (omega arith)
       (λ tok H a o _. (
         ap (map (right tok i)) o,
-        strict_words (means_of (kind_in (tok i))) (place_in (tok i)) a [] (ap item_kind (means i k tok H y) ∙ sym q ∙ r) ∙ rw (place_is H i z, ap item_number (means i k tok H y), sym u) (expr_linear a (5 ∷ p ∷ v ∷ 0 ∷ [])),
+        strict_words (means_of (kind_in (tok i))) (place_in (tok i)) a [] (ap item_kind (means i k tok H y ∙ sym q)) ∙ rw (place_is H i z, ap item_number (means i k tok H y ∙ sym q), sym u) (expr_linear a (5 ∷ p ∷ v ∷ 0 ∷ [])),
         refl,
       ))
 
@@ -182,13 +199,14 @@ module _ (h d m i : ℕ) where
         (λ tok H a o _. (args_next tok z o ∙ ap (λ (t : Bool). pick t (map (Args.more a) (exprs_of tok (levelled tok h) (m - 1) d (j + 1))) (ok (Args.more a Args.none) j)) (kind_not H j 26 q r), sym (append-nil (expr_words a [])), refl)) in
         goes_done a o refl (omega arith)
 
-    pub args_again : {j e x k : ℕ} {zs : List ℕ} → 0 < m → Found expr_form (λ tok. levelled tok h 1 d i) ts n ys i at j e x zs → k ≡ field_of ts n j 0 → k ≡ 26 → j < n
-        → Going args_form f (λ tok. exprs_of tok (levelled tok h) (m - 1) d (j + 1)) ts n xs s start (j + 1) e (c + 1) zs
+    pub args_again : {j e x k m' : ℕ} {zs : List ℕ} → m - 1 ≡ m' → 0 < m → Found expr_form (λ tok. levelled tok h 1 d i) ts n ys i at j e x zs → k ≡ field_of ts n j 0 → k ≡ 26 → j < n
+        → Going args_form f (λ tok. exprs_of tok (levelled tok h) m' d (j + 1)) ts n xs s start (j + 1) e (c + 1) zs
     unfolding args_words arg_count sign_kind
-    args_again {j} {e} {x} {k} {zs} z b q r l =
-        goes_on (λ tok b es. Args.more b es) 1 a b (omega arith) (omega arith) refl
+    args_again {j} {e} {x} {k} {m'} {zs} w z b q r l =
+        subst (λ (m : ℕ). Going args_form f (λ tok. exprs_of tok (levelled tok h) m d (j + 1)) ts n xs s start (j + 1) e (c + 1) zs) w
+        (goes_on (λ tok b es. Args.more b es) 1 a b (omega arith) (omega arith) refl
         (λ tok H b o. args_next tok z o ∙ ap (λ (t : Bool). pick t (map (Args.more b) (exprs_of tok (levelled tok h) (m - 1) d (j + 1))) (ok (Args.more b Args.none) j)) (kind_is H j 26 q r))
-        (λ tok b es. (expr_linear b (args_words es []), omega arith))
+        (λ tok b es. (expr_linear b (args_words es []), omega arith)))
 
 -- `arguments`
 some_args : (h d i : ℕ) {ts : List ℕ} {n k : ℕ} (tok : Row) → Holds tok ts n → k ≡ field_of ts n i 0 → (k ≡ 19 → ⊥) → args_of tok (levelled tok h) d i ≡ exprs_of tok (levelled tok h) 65536 d i
@@ -282,6 +300,14 @@ unary_number_lem zero h = refl
 unary_number_lem (suc zero) h = refl
 unary_number_lem (suc (suc o)) h = absurd (omega arith)
 
+pub unary_tag : (o : U.Unary) → tag_of UnaryProofs.the_type o ≡ N.unary_number o
+unary_tag unary.Negate = refl
+unary_tag unary.Not = refl
+
+pub unary_low : (o : U.Unary) → N.unary_number o < 2
+unary_low unary.Negate = omega arith
+unary_low unary.Not = omega arith
+
 module _ (h o d i : ℕ) {ts : List ℕ} {n at : ℕ} {xs : List ℕ} where
   pub unary_deep : {ys : List ℕ} → 32 ≤ d → Told expr_form (λ tok. unary_of tok (levelled tok h) (unary_at o) d i) ts n xs i at (Fault i) ys
   unfolding unary_of
@@ -291,11 +317,11 @@ module _ (h o d i : ℕ) {ts : List ℕ} {n at : ℕ} {xs : List ℕ} where
   unfolding unary_of
   unary_bad l b = fault (λ tok H. rw (lt-ltb d 32 l, b tok H))
 
-  pub unary_done : {j e c p e' : ℕ} {ys zs : List ℕ} → d < 32 → o < 2 → p ≡ field_of ts n i 1 → Found expr_form (λ tok. levelled tok h 6 (d + 1) (i + 1)) ts n xs (i + 1) at j e c ys → zs ≡ sets ys e (4 ∷ p ∷ o ∷ 0 ∷ []) → e' ≡ e + 4
+  pub unary_done : {j e c p v e' : ℕ} {ys zs : List ℕ} → d < 32 → o < 2 → v ≡ o → p ≡ field_of ts n i 1 → Found expr_form (λ tok. levelled tok h 6 (d + 1) (i + 1)) ts n xs (i + 1) at j e c ys → zs ≡ sets ys e (4 ∷ p ∷ v ∷ 0 ∷ []) → e' ≡ e + 4
       → Told expr_form (λ tok. unary_of tok (levelled tok h) (unary_at o) d i) ts n xs i at (Done j e' 1) zs
   unfolding unary_of expr_words
-  unary_done {j} {e} {c} {p} l m z b s t =
-      close (λ tok a. Expr.unary (place_in (tok i)) (unary_at o) a) (4 ∷ p ∷ o ∷ 0 ∷ []) b s t b.within (omega (arith, b.small)) (omega arith)
+  unary_done {j} {e} {c} {p} {ys = ys} l m w z b s t =
+      close (λ tok a. Expr.unary (place_in (tok i)) (unary_at o) a) (4 ∷ p ∷ o ∷ 0 ∷ []) b (s ∙ ap (λ (n : ℕ). sets ys e (4 ∷ p ∷ n ∷ 0 ∷ [])) w) t b.within (omega (arith, b.small)) (omega arith)
       (λ tok H a q _. (rw (lt-ltb d 32 l, q), rw (place_is H i z, unary_number_lem o m) (expr_linear a (4 ∷ p ∷ o ∷ 0 ∷ [])), refl))
 
 -- `primary`
@@ -334,14 +360,34 @@ module _ (h d i : ℕ) {ts : List ℕ} {n at k : ℕ} {xs : List ℕ} (y : k ≡
   unfolding primary_of sign_kind word_kind
   primary_none a b c e f g m = fault (λ tok H. rw (kind_not H i 2 y a, kind_not H i 1 y b, kind_not H i 37 y c, kind_not H i 38 y e, kind_not H i 18 y f, kind_not H i 10 y g, kind_not H i 17 y m))
 
-level_zero : level_of 0 ≡ 0
-unfolding level_of level_in operators sign_kind
-level_zero = refl
+-- a strict operator's number in the tree is that of the flat form
+pub strict_number_is : (s : O.Strict) → tag_of StrictProofs.the_type s ≡ item_number (Binary.strict (N.strict_of s))
+unfolding item_number strict_number
+strict_number_is strict.Eq = refl
+strict_number_is strict.Ne = refl
+strict_number_is strict.Lt = refl
+strict_number_is strict.Le = refl
+strict_number_is strict.Gt = refl
+strict_number_is strict.Ge = refl
+strict_number_is strict.Add = refl
+strict_number_is strict.Sub = refl
+strict_number_is strict.Mul = refl
+strict_number_is strict.Div = refl
+strict_number_is strict.Rem = refl
 
--- Where an operator is, there is a token.
-pub sign_there : {k l v : ℕ} → v ≡ level_of k → v ≡ l → 0 < l → 0 < k
-sign_there {k} {l} {v} = go k
-  where
-    go : (k : ℕ) → v ≡ level_of k → v ≡ l → 0 < l → 0 < k
-    go zero p q h = absurd (omega (arith, level_zero))
-    go (suc k) p q h = omega arith
+-- an item of two sides is a strict operator's or a lazy one's
+pub not_strict : (o : Operation) → ((s : O.Strict) → o ≡ operation.Strict s → ⊥) → item_kind (binary_of o) ≡ 5 → ⊥
+unfolding item_kind
+not_strict (operation.Strict s) h e = h s refl
+not_strict operation.And h e = absurd (omega arith)
+not_strict operation.Or h e = absurd (omega arith)
+
+-- what was read, by what is known of it
+pub as_read : {A : Type 0} {F : Form A} {f : Row → Out A} {ts : List ℕ} {n i at j c : ℕ} {xs ys : List ℕ} {r : input.Read} → r.next ≡ j → r.told ≡ c → Told F f ts n xs i at (Done j r.end c) ys → Told F f ts n xs i at (Result.Ok r) ys
+as_read {F = F} {f = f} {ts = ts} {n = n} {i = i} {at = at} {j = j} {xs = xs} {ys = ys} {r = r} p q t =
+    subst (λ (k : ℕ). Told F f ts n xs i at (Done k r.end r.told) ys) (sym p) (subst (λ (k : ℕ). Told F f ts n xs i at (Done j r.end k) ys) (sym q) t)
+
+-- what is no kind's number is none of these
+pub no_kind : {k v : ℕ} → IsNoKind k → k ≡ v → 0 < v → v ≤ 38 → ⊥
+no_kind (inl h) e z l = omega arith
+no_kind (inr h) e z l = omega arith

@@ -1,5 +1,5 @@
 -- Each way through the functions of arrays and functions is a clause of the parser.
-use mathlib.Core.Path.{◌≡◌, refl, sym, ap, ◌∙◌}
+use mathlib.Core.Path.{◌≡◌, refl, sym, ap, subst, ◌∙◌}
 use mathlib.Core.Bool.{Bool}
 use mathlib.Core.List.{List, [], ◌∷◌}
 use mathlib.Core.Option.{Option}
@@ -15,15 +15,13 @@ use Rattle.tokens.specs.Kinds.{sign_kind, word_kind}
 use Rattle.grammar.specs.Parse.{Out, Out.ok, Out.bad, next, map, place_in, name_in, number_in, kind, type_of, typed_of, block_of, param_of, param_list_of, params_of, result_of, size_of, array_of, body_of, function_of, item_of, items_of}
 use Rattle.grammar.specs.Flat.{block_words, result_number, params_words, item_words, items_words}
 use Rattle.grammar.specs.Told.{Row, field_of, Holds, Form, Says, Found, Told, Room, type_form, result_form, size_form, param_form, params_form, block_form, item_form, items_form}
-use Rattle.grammar.specs.declared.Got.{Got}
-use Rattle.grammar.specs.declared.Got.TheVariants.{Done, Fault}
 use Rattle.grammar.proofs.FlatLaws.{params_linear, item_linear}
-use Rattle.grammar.proofs.Steps.{fault, same, leaf, close, recast, front_two, Going, goes_done, goes_fault, goes_on, kind_is, kind_not, kind_eq, name_length, number_is, place_is}
+use Rattle.grammar.proofs.Steps.{Got, Done, Fault, fault, same, leaf, close, recast, front_two, Going, goes_done, goes_fault, goes_on, kind_is, kind_not, kind_eq, name_length, number_is, place_is}
 use Rattle.grammar.proofs.StmtLaws.{typed_name}
 
 -- room after a function's parameters
-pub room_gap3 : {A : Type 0} {F : Form A} {f : Row → Out A} {ts : List ℕ} {n i at b j e c : ℕ} {xs ys : List ℕ} → Room ts n xs i at → b ≡ at + 8 → Found F f ts n xs (i + 3) b j e c ys → length ys ≡ length xs → (k : ℕ) → j ≤ k → k ≤ n → Room ts n ys k e
-room_gap3 r z f q k l l' = record { few = r.few; held = r.held; begins = l'; free = omega (arith, r.free, f.small) }
+pub room_gap3 : {A : Type 0} {F : Form A} {f : Row → Out A} {ts : List ℕ} {n i at b j e c : ℕ} {xs ys : List ℕ} → Room n xs i at → b ≡ at + 8 → Found F f ts n xs (i + 3) b j e c ys → length ys ≡ length xs → (k : ℕ) → j ≤ k → k ≤ n → Room n ys k e
+room_gap3 r z f q k l l' = record { begins = l'; free = omega (arith, r.free, f.small) }
 
 -- `parameter`
 module _ (i : ℕ) {ts : List ℕ} {n at : ℕ} {xs : List ℕ} where
@@ -82,12 +80,13 @@ module _ (m i : ℕ) where
         (λ tok H a o _. (params_next tok z o ∙ ap (λ (t : Bool). pick t (map (λ xs. a ∷ xs) (param_list_of tok (m - 1) (j + 1))) (ok (a ∷ []) j)) (kind_not H j 26 q r), refl, refl)) in
         goes_done a o refl (omega arith)
 
-    pub params_again : {j e x k : ℕ} {zs : List ℕ} → 0 < m → Found param_form (λ tok. param_of tok i) ts n ys i at j e x zs → k ≡ field_of ts n j 0 → k ≡ 26 → j < n → Going params_form f (λ tok. param_list_of tok (m - 1) (j + 1)) ts n xs s start (j + 1) e (c + 1) zs
+    pub params_again : {j e x k m' : ℕ} {zs : List ℕ} → m - 1 ≡ m' → 0 < m → Found param_form (λ tok. param_of tok i) ts n ys i at j e x zs → k ≡ field_of ts n j 0 → k ≡ 26 → j < n → Going params_form f (λ tok. param_list_of tok m' (j + 1)) ts n xs s start (j + 1) e (c + 1) zs
     unfolding params_words
-    params_again {j} {e} {x} {k} {zs} z b q r l =
-        goes_on (λ tok b es. b ∷ es) 1 a b (omega arith) (omega arith) refl
+    params_again {j} {e} {x} {k} {m'} {zs} w z b q r l =
+        subst (λ (m : ℕ). Going params_form f (λ tok. param_list_of tok m (j + 1)) ts n xs s start (j + 1) e (c + 1) zs) w
+        (goes_on (λ tok b es. b ∷ es) 1 a b (omega arith) (omega arith) refl
         (λ tok H b o. params_next tok z o ∙ ap (λ (t : Bool). pick t (map (λ xs. b ∷ xs) (param_list_of tok (m - 1) (j + 1))) (ok (b ∷ []) j)) (kind_is H j 26 q r))
-        (λ tok b es. (refl, omega arith))
+        (λ tok b es. (refl, omega arith)))
 
 -- `parameters`
 module _ (i : ℕ) {ts : List ℕ} {n at k : ℕ} {xs : List ℕ} (q : k ≡ field_of ts n i 0) where
@@ -259,9 +258,10 @@ module _ (count m i : ℕ) where
     pub items_bad : {p : ℕ} {zs : List ℕ} → 0 < m → (i ≡ count → ⊥) → ((tok : Row) → Holds tok ts n → item_of tok i ≡ bad p) → Told items_form f ts n xs s start (Fault p) zs
     items_bad z e b = goes_fault a (λ tok H. items_on tok z e ∙ ap (λ (o : Out Item). next o (λ x j. map (λ xs. x ∷ xs) (items_of tok count (m - 1) j))) (b tok H))
 
-    pub items_again : {j e x : ℕ} {zs : List ℕ} → 0 < m → (i ≡ count → ⊥) → Found item_form (λ tok. item_of tok i) ts n ys i at j e x zs → Going items_form f (λ tok. items_of tok count (m - 1) j) ts n xs s start j e (c + 1) zs
+    pub items_again : {j e x m' : ℕ} {zs : List ℕ} → m - 1 ≡ m' → 0 < m → (i ≡ count → ⊥) → Found item_form (λ tok. item_of tok i) ts n ys i at j e x zs → Going items_form f (λ tok. items_of tok count m' j) ts n xs s start j e (c + 1) zs
     unfolding items_words
-    items_again z e b =
-        goes_on (λ tok x xs. x ∷ xs) 1 a b (omega arith) b.within refl
-        (λ tok H x o. items_on tok z e ∙ ap (λ (o : Out Item). next o (λ x j. map (λ xs. x ∷ xs) (items_of tok count (m - 1) j))) o)
-        (λ tok x xs. (item_linear x (items_words xs []), omega arith))
+    items_again {j} {e} {x} {m'} {zs} w z ne b =
+        subst (λ (m : ℕ). Going items_form f (λ tok. items_of tok count m j) ts n xs s start j e (c + 1) zs) w
+        (goes_on (λ tok x xs. x ∷ xs) 1 a b (omega arith) b.within refl
+        (λ tok H x o. items_on tok z ne ∙ ap (λ (o : Out Item). next o (λ x j. map (λ xs. x ∷ xs) (items_of tok count (m - 1) j))) o)
+        (λ tok x xs. (item_linear x (items_words xs []), omega arith)))

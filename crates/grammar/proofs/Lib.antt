@@ -11,3 +11,4 @@ pub mod StmtLaws
 pub mod ItemLaws
 pub mod Whole
 pub mod Examples
+pub mod Field

@@ -1,6 +1,8 @@
 -- Laws of the promises: what a part gives, and how parts make a whole.
 use mathlib.Core.Path.{◌≡◌, refl, sym, ap, subst, ◌∙◌}
-use mathlib.Core.Bool.{true, false}
+use mathlib.Core.Bool.{Bool, true, false}
+use mathlib.Core.Logic.{◌↔◌}
+use Rattle.std.specs.Bool.{IsTrue}
 use mathlib.Core.List.{List, [], ◌++◌, append_assoc}
 use mathlib.Core.Option.{Option}
 use Prim.Native.Nat.{ℕ, ◌+◌, ◌*◌, ◌≤◌, ◌<◌}
@@ -13,18 +15,42 @@ use Rattle.language.specs.Tokens.{Placed}
 use Rattle.tokens.specs.Kinds.{value_of}
 use Rattle.grammar.specs.Parse.{Out, Out.ok, Out.bad, next, map, kind_in, place_in, name_in, name_of, number_in, number_of, kind}
 use Rattle.grammar.specs.Told.{Row, field_of, value_in, Holds, Form, Says, Found, Told, Room}
-use Rattle.grammar.specs.declared.Got.{Got}
-use Rattle.grammar.specs.declared.Got.TheVariants.{Done, Fault}
+use Rattle.std.specs.Prelude.{Result, Option as Perhaps}
+use Rattle.std.specs.Result.{IsErrAnd}
+use Rattle.std.proofs.lemmas.Result.{err_from_is_err_and}
+use Rattle.grammar.specs.Types.{told_type, told_result}
+use Rattle.grammar.specs.declared.types.TypeRead.{TypeRead}
+use Rattle.grammar.specs.declared.tree.ValueType.{ValueType}
+use Rattle.grammar.specs.declared.input.Read.{Read}
+use Rattle.grammar.specs.declared.input.Fault as input
 use Rattle.grammar.proofs.TokenKinds.{name_at_lem, number_at_lem}
 use Rattle.grammar.proofs.Writes.{sets_append, sets_before}
 
-module _ {A : Type 0} {F : Form A} {f : Row → Out A} {ts : List ℕ} {n i at : ℕ} {xs : List ℕ} where
-  -- the answer's case
-  pub hit : {g : Got} {j e c : ℕ} {ys : List ℕ} → g ≡ Done j e c → Told F f ts n xs i at g ys → Found F f ts n xs i at j e c ys
-  hit {g} {j} {e} {c} {ys} q h = (subst (λ (w : Got). Told F f ts n xs i at w ys) q h).by
+-- what reading gives: how far it went, or the token at fault
+abbrev pub Got : Type 0
+Got = Result Read input.Fault
 
-  pub miss : {g : Got} {p : ℕ} {ys : List ℕ} → g ≡ Fault p → Told F f ts n xs i at g ys → (tok : Row) → Holds tok ts n → f tok ≡ bad p
-  miss {g} {p} {ys} q h = (subst (λ (w : Got). Told F f ts n xs i at w ys) q h).by
+abbrev pub Done : ℕ → ℕ → ℕ → Got
+Done j e c = Result.Ok (record { next = j; end = e; told = c })
+
+abbrev pub Fault : ℕ → Got
+Fault p = Result.Err (record { 0 = p })
+
+-- what is said of a fault is said of the answer that hands it on
+exits_at : {T : Type 0} (P : Result T input.Fault → Type 0) {r : Result T input.Fault} {q : input.Fault} {p : ℕ} → IsErrAnd r (λ e. e ≡ q) → q.0 ≡ p → P (Result.Err (record { 0 = p })) → P r
+exits_at P {r} {q} {p} h e t =
+    let w = err_from_is_err_and r h in
+    subst P (sym (w.1 ∙ ap (λ (x : input.Fault). Result.Err x) w.2)) (subst (λ (k : ℕ). P (Result.Err (record { 0 = k }))) (sym e) t)
+
+module _ {A : Type 0} {F : Form A} {f : Row → Out A} {ts : List ℕ} {n i at : ℕ} {xs : List ℕ} where
+  pub exits : {r : Got} {q : input.Fault} {p : ℕ} {ys : List ℕ} → IsErrAnd r (λ e. e ≡ q) → q.0 ≡ p → Told F f ts n xs i at (Fault p) ys → Told F f ts n xs i at r ys
+  exits {ys = ys} h e t = exits_at (λ g. Told F f ts n xs i at g ys) h e t
+
+  pub exits_typed : (r : Result (TypeRead ValueType) input.Fault) {q : input.Fault} {p : ℕ} {ys : List ℕ} → IsErrAnd r (λ e. e ≡ q) → q.0 ≡ p → Told F f ts n xs i at (Fault p) ys → Told F f ts n xs i at (told_type r) ys
+  exits_typed r {ys = ys} h e t = exits_at (λ g. Told F f ts n xs i at (told_type g) ys) h e t
+
+  pub exits_given : (r : Result (TypeRead (Perhaps ValueType)) input.Fault) {q : input.Fault} {p : ℕ} {ys : List ℕ} → IsErrAnd r (λ e. e ≡ q) → q.0 ≡ p → Told F f ts n xs i at (Fault p) ys → Told F f ts n xs i at (told_result r) ys
+  exits_given r {ys = ys} h e t = exits_at (λ g. Told F f ts n xs i at (told_result g) ys) h e t
 
   pub found : {j e c : ℕ} {ys : List ℕ} → Found F f ts n xs i at j e c ys → Told F f ts n xs i at (Done j e c) ys
   found h = record { by = h }
@@ -37,17 +63,17 @@ module _ {A : Type 0} {F : Form A} {f : Row → Out A} {ts : List ℕ} {n i at :
   same {k} {r} {ys} q h = go r h
     where
       go : (r : Got) → Told F f ts n xs i at r ys → Told F k ts n xs i at r ys
-      go (Done j e c) h =
+      go (Result.Ok r) h =
           record {
             by = record {
               within = h.by.within;
               small = h.by.small;
               onward = h.by.onward;
               fits = h.by.fits;
-              says = λ tok H. let s : Says F (f tok) xs at j e c ys = h.by.says tok H in record { value = s.value; is = q tok H ∙ s.is; told = s.told; end = s.end; buffer = s.buffer };
+              says = λ tok H. let s : Says F (f tok) xs at r.next r.end r.told ys = h.by.says tok H in record { value = s.value; is = q tok H ∙ s.is; told = s.told; end = s.end; buffer = s.buffer };
             };
           }
-      go (Fault p) h = record { by = λ tok H. q tok H ∙ h.by tok H }
+      go (Result.Err p) h = record { by = λ tok H. q tok H ∙ h.by tok H }
 
 -- words that are known, for tokens that were passed
 pub leaf : {A : Type 0} {F : Form A} {k : Row → Out A} {ts : List ℕ} {n i at j e m : ℕ} {xs ys : List ℕ} (v : Row → A) (c : List ℕ) → ys ≡ sets xs at c → e ≡ at + length c → j ≤ n → e + 8 * i ≤ at + 8 * j → m < 4294967296
@@ -116,7 +142,7 @@ pub recast : {A B : Type 0} {F : Form A} {K : Form B} {f : Row → Out A} {k : R
 recast {F = F} {K = K} {f = f} {k = k} {ts = ts} {n = n} {i = i} {i' = i'} {at = at} {r = r} {xs = xs} {ys = ys} φ l h q w = go r h
   where
     go : (r : Got) → Told F f ts n xs i' at r ys → Told K k ts n xs i at r ys
-    go (Done j e c) h =
+    go (Result.Ok r) h =
         record {
           by = record {
             within = h.by.within;
@@ -124,12 +150,12 @@ recast {F = F} {K = K} {f = f} {k = k} {ts = ts} {n = n} {i = i} {i' = i'} {at =
             onward = h.by.onward;
             fits = h.by.fits;
             says = λ tok H.
-                let s : Says F (f tok) xs at j e c ys = h.by.says tok H in
+                let s : Says F (f tok) xs at r.next r.end r.told ys = h.by.says tok H in
                 let v = w tok H s.value in
                 record { value = φ tok H s.value; is = q tok H ∙ ap (map (φ tok H)) s.is; told = s.told ∙ v.1; end = rw v.0 s.end; buffer = rw v.0 s.buffer };
           };
         }
-    go (Fault p) h = record { by = λ tok H. q tok H ∙ ap (map (φ tok H)) (h.by tok H) }
+    go (Result.Err p) h = record { by = λ tok H. q tok H ∙ ap (map (φ tok H)) (h.by tok H) }
 
 -- one run of stores after another
 pub after : {ys zs : List ℕ} {e : ℕ} (xs : List ℕ) (at : ℕ) (u v : List ℕ) → ys ≡ sets xs at u → e ≡ at + length u → zs ≡ sets ys e v → zs ≡ sets xs at (u ++ v)
@@ -198,7 +224,7 @@ pub seq : {A B C : Type 0} {F : Form A} {G : Form B} {K : Form C} {f : Row → O
 seq {F = F} {G = G} {K = K} {f = f} {k = k} {ts = ts} {n = n} {i = i} {at = at} {j = j} {e = e} {c = c} {xs = xs} {ys = ys} {zs = zs} {r = r} g φ a b q w = go r b
   where
     go : (r : Got) → Told G (λ tok. g tok j) ts n ys j e r zs → Told K k ts n xs i at r zs
-    go (Done j' e' c') b =
+    go (Result.Ok r) b =
         record {
           by = record {
             within = b.by.within;
@@ -207,7 +233,7 @@ seq {F = F} {G = G} {K = K} {f = f} {k = k} {ts = ts} {n = n} {i = i} {at = at} 
             fits = b.by.fits;
             says = λ tok H.
                 let x : Says F (f tok) xs at j e c ys = a.says tok H in
-                let y : Says G (g tok j) ys e j' e' c' zs = b.by.says tok H in
+                let y : Says G (g tok j) ys e r.next r.end r.told zs = b.by.says tok H in
                 let v = w tok x.value y.value in
                 record {
                   value = φ tok x.value y.value;
@@ -218,7 +244,7 @@ seq {F = F} {G = G} {K = K} {f = f} {k = k} {ts = ts} {n = n} {i = i} {at = at} 
                 };
           };
         }
-    go (Fault p) b =
+    go (Result.Err p) b =
         record { by = λ tok H. let x : Says F (f tok) xs at j e c ys = a.says tok H in q tok H ∙ ap (λ (o : Out _). next o (λ a m. map (φ tok a) (g tok m))) x.is ∙ ap (map (φ tok x.value)) (b.by tok H) }
 
 -- Loops: f is what was read since, and then f'.
@@ -256,8 +282,8 @@ begun {F = F} {f = f} h =
     }
 
 module _ {A : Type 0} {F : Form A} {f f' : Row → Out A} {ts : List ℕ} {n i at j e c : ℕ} {xs ys : List ℕ} where
-  pub room_on : Room ts n xs i at → Going F f f' ts n xs i at j e c ys → length ys ≡ length xs → Room ts n ys j e
-  room_on r g q = record { few = r.few; held = r.held; begins = g.within; free = omega (arith, r.free, g.small) }
+  pub room_on : Room n xs i at → Going F f f' ts n xs i at j e c ys → length ys ≡ length xs → Room n ys j e
+  room_on r g q = record { begins = g.within; free = omega (arith, r.free, g.small) }
 
   -- the last part
   pub goes_done : {j' e' c' m : ℕ} {zs : List ℕ} → Going F f f' ts n xs i at j e c ys → Told F f' ts n ys j e (Done j' e' c') zs → m ≡ c + c' → m < 4294967296 → Told F f ts n xs i at (Done j' e' m) zs
@@ -309,6 +335,12 @@ module _ {A : Type 0} {F : Form A} {f f' : Row → Out A} {ts : List ℕ} {n i a
 
 -- Tests of tokens.
 
+pub yes : {P : Type 0} → (IsTrue true ↔ P) → P
+yes h = h.0 refl
+
+pub no : {P : Type 0} → (IsTrue false ↔ P) → P → ⊥
+no h p = let z : ◌≡◌ {A = Bool} false true = h.1 p in cc
+
 module _ {tok : Row} {ts : List ℕ} {n : ℕ} (H : Holds tok ts n) where
   pub kind_is : {k : ℕ} (i v : ℕ) → k ≡ field_of ts n i 0 → k ≡ v → eqb (kind tok i) v ≡ true
   kind_is i v q e = eq-eqb (kind tok i) v (sym (H.kind i) ∙ sym q ∙ e)
@@ -340,15 +372,15 @@ module _ {tok : Row} {ts : List ℕ} {n : ℕ} (H : Holds tok ts n) where
 
 -- Room.
 
-pub room : {A : Type 0} {F : Form A} {f : Row → Out A} {ts : List ℕ} {n i at j e c : ℕ} {xs ys : List ℕ} → Room ts n xs i at → Found F f ts n xs i at j e c ys → length ys ≡ length xs → Room ts n ys j e
-room r f q = record { few = r.few; held = r.held; begins = f.within; free = omega (arith, r.free, f.small) }
+pub room : {A : Type 0} {F : Form A} {f : Row → Out A} {ts : List ℕ} {n i at j e c : ℕ} {xs ys : List ℕ} → Room n xs i at → Found F f ts n xs i at j e c ys → length ys ≡ length xs → Room n ys j e
+room r f q = record { begins = f.within; free = omega (arith, r.free, f.small) }
 
-pub room_at : {ts : List ℕ} {n i at : ℕ} {xs : List ℕ} (j e : ℕ) → Room ts n xs i at → j ≤ n → e + 8 * i ≤ at + 8 * j → Room ts n xs j e
-room_at j e r l s = record { few = r.few; held = r.held; begins = l; free = omega (arith, r.free) }
+pub room_at : {n i at : ℕ} {xs : List ℕ} (j e : ℕ) → Room n xs i at → j ≤ n → e + 8 * i ≤ at + 8 * j → Room n xs j e
+room_at j e r l s = record { begins = l; free = omega (arith, r.free) }
 
 -- an item after a part, and one in the gap before it
-pub room_put : {A : Type 0} {F : Form A} {f : Row → Out A} {ts : List ℕ} {n i at j e c : ℕ} {xs ys : List ℕ} → Room ts n xs i at → Found F f ts n xs (i + 1) at j e c ys → length ys ≡ length xs → e + 4 ≤ length ys
+pub room_put : {A : Type 0} {F : Form A} {f : Row → Out A} {ts : List ℕ} {n i at j e c : ℕ} {xs ys : List ℕ} → Room n xs i at → Found F f ts n xs (i + 1) at j e c ys → length ys ≡ length xs → e + 4 ≤ length ys
 room_put r f q = omega (arith, r.free, f.small, f.within)
 
-pub room_gap : {A : Type 0} {F : Form A} {f : Row → Out A} {ts : List ℕ} {n i at b j e c : ℕ} {xs ys : List ℕ} → Room ts n xs i at → b ≡ at + 4 → Found F f ts n xs (i + 1) b j e c ys → length ys ≡ length xs → e + 4 ≤ length ys
+pub room_gap : {A : Type 0} {F : Form A} {f : Row → Out A} {ts : List ℕ} {n i at b j e c : ℕ} {xs ys : List ℕ} → Room n xs i at → b ≡ at + 4 → Found F f ts n xs (i + 1) b j e c ys → length ys ≡ length xs → e + 4 ≤ length ys
 room_gap r z f q = omega (arith, r.free, f.small, f.within)

@@ -1,5 +1,5 @@
 -- Each way through the functions of statements is a clause of the parser.
-use mathlib.Core.Path.{◌≡◌, refl, sym, ap, ◌∙◌}
+use mathlib.Core.Path.{◌≡◌, refl, sym, ap, subst, ◌∙◌}
 use mathlib.Core.Bool.{Bool}
 use mathlib.Core.List.{List, [], ◌∷◌, ◌++◌, append-nil}
 use Prim.Native.Nat.{ℕ, zero, suc, ◌+◌, ◌*◌, ◌-◌, ◌/◌, ◌≤◌, ◌<◌}
@@ -15,10 +15,8 @@ use Rattle.tokens.specs.Kinds.{sign_kind, word_kind}
 use Rattle.grammar.specs.Parse.{Out, Out.ok, Out.bad, next, map, place_in, name_in, kind, levelled, enclosed_of, arguments_of, expr_of, index_of, call_of, ended_of, type_of, typed_of, declare_of, assign_of, store_of, run_of, change_of, return_of, emit_of, while_of, else_of, if_of, stmt_of, stmts_of, block_of}
 use Rattle.grammar.specs.Flat.{size, sizes, arg_count, expr_words, args_words, expr_length, run_words, stmt_words, block_words, count, declare_kind, type_number}
 use Rattle.grammar.specs.Told.{Row, field_of, Holds, Form, Found, Told, Room, expr_form, args_form, single_form, type_form, stmt_form, block_form}
-use Rattle.grammar.specs.declared.Got.{Got}
-use Rattle.grammar.specs.declared.Got.TheVariants.{Done, Fault}
 use Rattle.grammar.proofs.FlatLaws.{expr_linear, args_linear, stmt_linear, block_linear, expr_length_lem, args_length}
-use Rattle.grammar.proofs.Steps.{fault, same, leaf, close, front, recast, after, front_two, front_three, Going, goes_done, goes_fault, goes_on, map_id, kind_is, kind_not, kind_eq, name_length, place_is}
+use Rattle.grammar.proofs.Steps.{Got, Done, Fault, fault, same, leaf, close, front, recast, front_two, front_three, Going, goes_done, goes_fault, goes_on, map_id, kind_is, kind_not, kind_eq, name_length, place_is}
 
 -- items of so many words
 quarter : (w s : ℕ) → w ≡ 4 * s + 0 → w / 4 ≡ s
@@ -27,13 +25,9 @@ quarter w s e = omega (arith, e)
 pub items_of : (e : Expr) (w : ℕ) → w ≡ expr_length e → w / 4 ≡ size e
 items_of e w q = quarter w (size e) (q ∙ expr_length_lem e [])
 
--- a header's two halves
-pub eight : {ys zs : List ℕ} (xs : List ℕ) (at a b c d e f g h : ℕ) → ys ≡ sets xs at (a ∷ b ∷ c ∷ d ∷ []) → zs ≡ sets ys (at + 4) (e ∷ f ∷ g ∷ h ∷ []) → zs ≡ sets xs at (a ∷ b ∷ c ∷ d ∷ e ∷ f ∷ g ∷ h ∷ [])
-eight xs at a b c d e f g h p q = after xs at (a ∷ b ∷ c ∷ d ∷ []) (e ∷ f ∷ g ∷ h ∷ []) p refl q
-
 -- room after a statement's first part, which leaves a header's words free
-pub room_go : {A : Type 0} {F : Form A} {f : Row → Out A} {ts : List ℕ} {n i at b j e c : ℕ} {xs ys : List ℕ} → Room ts n xs i at → b ≡ at + 8 → Found F f ts n xs (i + 1) b j e c ys → length ys ≡ length xs → (k : ℕ) → j ≤ k → k ≤ n → Room ts n ys k e
-room_go r z f q k l l' = record { few = r.few; held = r.held; begins = l'; free = omega (arith, r.free, f.small) }
+pub room_go : {A : Type 0} {F : Form A} {f : Row → Out A} {ts : List ℕ} {n i at b j e c : ℕ} {xs ys : List ℕ} → Room n xs i at → b ≡ at + 8 → Found F f ts n xs (i + 1) b j e c ys → length ys ≡ length xs → (k : ℕ) → j ≤ k → k ≤ n → Room n ys k e
+room_go r z f q k l l' = record { begins = l'; free = omega (arith, r.free, f.small) }
 
 -- `ended`
 module _ (d i : ℕ) {ts : List ℕ} {n at : ℕ} {xs : List ℕ} where
@@ -55,12 +49,12 @@ module _ (d k p x i : ℕ) {ts : List ℕ} {n at : ℕ} {xs : List ℕ} where
   pub single_bad : {q : ℕ} {ys : List ℕ} → ((tok : Row) → Holds tok ts n → ended_of tok d (i + 1) ≡ bad q) → Told (single_form k p x) (λ tok. ended_of tok d (i + 1)) ts n xs i at (Fault q) ys
   single_bad b = fault b
 
-  pub single_done : {b j e c w : ℕ} {ys zs : List ℕ} → b ≡ at + 8 → Found expr_form (λ tok. ended_of tok d (i + 1)) ts n xs (i + 1) b j e c ys → w ≡ e - b → zs ≡ sets ys at (k ∷ p ∷ x ∷ w / 4 ∷ 0 ∷ 0 ∷ 0 ∷ w ∷ []) → Told (single_form k p x) (λ tok. ended_of tok d (i + 1)) ts n xs i at (Done j e 1) zs
+  pub single_done : {b j e c w : ℕ} {ys zs : List ℕ} → b ≡ at + 8 → Found expr_form (λ tok. ended_of tok d (i + 1)) ts n xs (i + 1) b j e c ys → w ≡ e - b → zs ≡ sets ys at (k ∷ p ∷ x ∷ w / 4 ∷ 0 ∷ 0 ∷ 0 ∷ w ∷ []) → Told (single_form k p x) (λ tok. ended_of tok d (i + 1)) ts n xs i at (Done j e c) zs
   single_done {b} {j} {e} {c} {w} q f r s =
-      front (λ tok a. a) (k ∷ p ∷ x ∷ w / 4 ∷ 0 ∷ 0 ∷ 0 ∷ w ∷ []) q f s f.within (omega (arith, f.small)) (omega arith)
-      (λ tok H a o _ t.
+      front (λ tok a. a) (k ∷ p ∷ x ∷ w / 4 ∷ 0 ∷ 0 ∷ 0 ∷ w ∷ []) q f s f.within (omega (arith, f.small)) f.fits
+      (λ tok H a o v t.
       let u : w ≡ expr_length a = omega (arith, r, t) in
-      (o, sym (ap (λ (m : ℕ). k ∷ p ∷ x ∷ m ∷ 0 ∷ 0 ∷ 0 ∷ w ∷ expr_words a []) (items_of a w u) ∙ ap (λ (m : ℕ). k ∷ p ∷ x ∷ size a ∷ 0 ∷ 0 ∷ 0 ∷ m ∷ expr_words a []) u), refl))
+      (o, sym (ap (λ (m : ℕ). k ∷ p ∷ x ∷ m ∷ 0 ∷ 0 ∷ 0 ∷ w ∷ expr_words a []) (items_of a w u) ∙ ap (λ (m : ℕ). k ∷ p ∷ x ∷ size a ∷ 0 ∷ 0 ∷ 0 ∷ m ∷ expr_words a []) u), v))
 
 -- `type_at` and `typed`
 module _ (i : ℕ) {ts : List ℕ} {n : ℕ} where
@@ -270,12 +264,13 @@ module _ (h d m i : ℕ) where
     pub stmts_bad : {k p : ℕ} {zs : List ℕ} → 0 < m → k ≡ field_of ts n i 0 → (k ≡ 21 → ⊥) → ((tok : Row) → Holds tok ts n → stmt_of tok (block_of tok h) d i ≡ bad p) → Told block_form f ts n xs s start (Fault p) zs
     stmts_bad z q e b = goes_fault a (λ tok H. stmts_on tok H z q e ∙ ap (λ (o : Out Stmt). next o (λ s j. map (Block.then s) (stmts_of tok (block_of tok h) (m - 1) d j))) (b tok H))
 
-    pub stmts_again : {k j e x : ℕ} {zs : List ℕ} → 0 < m → k ≡ field_of ts n i 0 → (k ≡ 21 → ⊥) → Found stmt_form (λ tok. stmt_of tok (block_of tok h) d i) ts n ys i at j e x zs → Going block_form f (λ tok. stmts_of tok (block_of tok h) (m - 1) d j) ts n xs s start j e (c + 1) zs
+    pub stmts_again : {k j e x m' : ℕ} {zs : List ℕ} → m - 1 ≡ m' → 0 < m → k ≡ field_of ts n i 0 → (k ≡ 21 → ⊥) → Found stmt_form (λ tok. stmt_of tok (block_of tok h) d i) ts n ys i at j e x zs → Going block_form f (λ tok. stmts_of tok (block_of tok h) m' d j) ts n xs s start j e (c + 1) zs
     unfolding block_words count
-    stmts_again z q e b =
-        goes_on (λ tok s b. Block.then s b) 1 a b (omega arith) b.within refl
-        (λ tok H s o. stmts_on tok H z q e ∙ ap (λ (o : Out Stmt). next o (λ s j. map (Block.then s) (stmts_of tok (block_of tok h) (m - 1) d j))) o)
-        (λ tok s b. (stmt_linear s (block_words b []), omega arith))
+    stmts_again {k} {j} {e} {x} {m'} {zs} w z q ne b =
+        subst (λ (m : ℕ). Going block_form f (λ tok. stmts_of tok (block_of tok h) m d j) ts n xs s start j e (c + 1) zs) w
+        (goes_on (λ tok s b. Block.then s b) 1 a b (omega arith) b.within refl
+        (λ tok H s o. stmts_on tok H z q ne ∙ ap (λ (o : Out Stmt). next o (λ s j. map (Block.then s) (stmts_of tok (block_of tok h) (m - 1) d j))) o)
+        (λ tok s b. (stmt_linear s (block_words b []), omega arith)))
 
 -- `stmt`
 module _ (h d i : ℕ) {ts : List ℕ} {n at k : ℕ} {xs : List ℕ} (y : k ≡ field_of ts n i 0) where

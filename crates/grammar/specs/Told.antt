@@ -1,15 +1,15 @@
 -- What the functions promise: what they say is what the parser says of the tokens that the words hold, and what they write is its flat form.
-use Rattle.std.specs.Prelude.{◌≡◌, List, [], ◌∷◌, ℕ, ◌+◌, ◌*◌, ◌≤◌, ◌<◌, ltb, eqb, length, get_or}
+use Rattle.std.specs.Prelude.{◌≡◌, ◌⊎◌, List, [], ◌∷◌, ℕ, ◌+◌, ◌*◌, ◌≤◌, ◌<◌, ltb, eqb, length, get_or, Result}
 use Rattle.std.proofs.Math.Option.{Option}
 use Rattle.std.proofs.lemmas.List.Edits.{sets}
 use Rattle.word.specs.Choice.{pick}
 use Rattle.language.specs.Tree.{Place, Ty, Unary, Binary, Expr, Args, Stmt, Block, Param, Item}
 use Rattle.language.specs.Tokens.{Placed}
 use Rattle.tokens.specs.Kinds.{value_of, words_per_token}
-use Rattle.grammar.specs.Parse.{Out, Out.ok, Out.bad, map, kind_in, place_in, Tail, many, means_of}
+use Rattle.grammar.specs.Parse.{Out, Out.ok, Out.bad, map, kind_in, place_in, Tail, means_of}
 use Rattle.grammar.specs.Flat.{arg_count, size, header, expr_length, expr_words, args_words, stmt_words, block_words, params_words, item_words, items_words, count, type_number, result_number, right_words, tail_words, words_for_token}
-use Rattle.grammar.specs.declared.Got.{Got}
-use Rattle.grammar.specs.declared.Got.TheVariants.{Done, Fault}
+use Rattle.grammar.specs.declared.input.Read.{Read}
+use Rattle.grammar.specs.declared.input.Fault.{Fault}
 
 -- Tokens in words, n of them.
 
@@ -28,6 +28,10 @@ pub record Holds (tok : Row) (ts : List ℕ) (n : ℕ) : Type 0 where
   pub kind : (i : ℕ) → field_of ts n i 0 ≡ kind_in (tok i)
   pub place : (i : ℕ) → field_of ts n i 1 ≡ place_in (tok i)
   pub value : (i : ℕ) → field_of ts n i 2 ≡ value_in (tok i)
+
+-- no kind of token has this number
+abbrev pub IsNoKind : ℕ → Type 0
+IsNoKind k = (k < 1) ⊎ (38 < k)
 
 -- Things that are read: the words they are written as, and a number that is handed on.
 
@@ -107,17 +111,15 @@ pub record Found {A : Type 0} (F : Form A) (f : Row → Out A) (ts : List ℕ) (
   pub fits : c < 4294967296
   pub says : (tok : Row) → Holds tok ts n → Says F (f tok) xs at j e c ys
 
-abbrev pub Case : {A : Type 0} → Form A → (Row → Out A) → List ℕ → ℕ → List ℕ → ℕ → ℕ → Got → List ℕ → Type 0
-Case F f ts n xs i at (Done j e c) ys = Found F f ts n xs i at j e c ys
-Case F f ts n xs i at (Fault p) ys = (tok : Row) → Holds tok ts n → f tok ≡ bad p
+abbrev pub Case : {A : Type 0} → Form A → (Row → Out A) → List ℕ → ℕ → List ℕ → ℕ → ℕ → Result Read Fault → List ℕ → Type 0
+Case F f ts n xs i at (Result.Ok r) ys = Found F f ts n xs i at r.next r.end r.told ys
+Case F f ts n xs i at (Result.Err p) ys = (tok : Row) → Holds tok ts n → f tok ≡ bad p.0
 
-pub record Told {A : Type 0} (F : Form A) (f : Row → Out A) (ts : List ℕ) (n : ℕ) (xs : List ℕ) (i at : ℕ) (r : Got) (ys : List ℕ) : Type 0 where
+pub record Told {A : Type 0} (F : Form A) (f : Row → Out A) (ts : List ℕ) (n : ℕ) (xs : List ℕ) (i at : ℕ) (r : Result Read Fault) (ys : List ℕ) : Type 0 where
   pub by : Case F f ts n xs i at r ys
 
--- the words hold n tokens, and there are eight words of room for each token from i on
-pub record Room (ts : List ℕ) (n : ℕ) (xs : List ℕ) (i at : ℕ) : Type 0 where
-  pub few : n ≤ many
-  pub held : words_per_token * n ≤ length ts
+-- of n tokens, there are eight words of room for each token from i on
+pub record Room (n : ℕ) (xs : List ℕ) (i at : ℕ) : Type 0 where
   pub begins : i ≤ n
   pub free : at + words_for_token * n ≤ length xs + words_for_token * i
 

@@ -1,52 +1,62 @@
 // type, and what has one: a name with its type, and a result.
-ghost use Rattle.std.specs.Prelude.{[], ◌+◌, ◌*◌, ◌≤◌, length};
+ghost use Rattle.std.specs.Prelude.{[], ◌+◌, ◌≤◌};
 ghost use Rattle.grammar.specs.Parse.{type_of, typed_of, result_of};
 ghost use Rattle.grammar.specs.Told.{Told, type_form, result_form};
+ghost use Rattle.grammar.specs.Types.{told_type, told_result};
 
-use crate::Got;
-use crate::words::field;
+use crate::input::{Fault, Tokens};
+use crate::tree::ValueType;
+use tokens::kinds::Kind;
 
-// The numbers of types.
-pub const INT: usize = 1;
-
-const BOOL: usize = 2;
-
-// type = "int" | "bool", told as a number.
-fn type_at(ts: &[u32], n: usize, i: usize) -> Got
-    requires { (3 * n ≤ length ts.now) × (n ≤ 65536) × (i ≤ n) }
-    ensures { Told type_form (λ tok. type_of tok i) ts.now n [] i 0 result [] }
-{
-    let k = field(ts, n, i, 0);
-    if k == tokens::kinds::INT {
-        return Got::Done(i + 1, 0, INT);
-    }
-    if k == tokens::kinds::BOOL {
-        return Got::Done(i + 1, 0, BOOL);
-    }
-    Got::Fault(i)
+// A type, or whether there is one, and the token after it.
+#[derive(Clone, Copy, Debug, PartialEq, Eq, Hash)]
+pub struct TypeRead<T> {
+    pub next: usize,
+    pub value_type: T,
 }
 
-// name ":" type, told as the type's number.
-pub fn typed(ts: &[u32], n: usize, i: usize) -> Got
-    requires { (3 * n ≤ length ts.now) × (n ≤ 65536) × (i ≤ n) }
-    ensures { Told type_form (λ tok. typed_of tok i) ts.now n [] (i + 1) 0 result [] }
+// type = "int" | "bool"
+fn type_at(ts: Tokens, i: usize) -> Result<TypeRead<ValueType>, Fault>
+    requires { i ≤ ts.count }
+    ensures { Told type_form (λ tok. type_of tok i) ts.entry.words.now ts.entry.count [] i 0 (told_type result) [] }
 {
-    if field(ts, n, i, 0) != tokens::kinds::NAME {
-        return Got::Fault(i);
+    if ts.is(i, Kind::Int) {
+        return Ok(TypeRead {
+            next: i + 1,
+            value_type: ValueType::Int,
+        });
     }
-    if field(ts, n, i + 1, 0) != tokens::kinds::COLON {
-        return Got::Fault(i + 1);
-    }
-    type_at(ts, n, i + 2)
+    ts.expect(i, Kind::Bool)?;
+    Ok(TypeRead {
+        next: i + 1,
+        value_type: ValueType::Bool,
+    })
 }
 
-// [ ":" type ], told as a number: 0 for none.
-pub fn result(ts: &[u32], n: usize, i: usize) -> Got
-    requires { (3 * n ≤ length ts.now) × (n ≤ 65536) × (i ≤ n) }
-    ensures { Told result_form (λ tok. result_of tok i) ts.now n [] i 0 result [] }
+// name ":" type
+pub fn typed(ts: Tokens, i: usize) -> Result<TypeRead<ValueType>, Fault>
+    requires { i ≤ ts.count }
+    ensures { Told type_form (λ tok. typed_of tok i) ts.entry.words.now ts.entry.count [] (i + 1) 0 (told_type result) [] }
 {
-    if field(ts, n, i, 0) != tokens::kinds::COLON {
-        return Got::Done(i, 0, 0);
+    ts.expect(i, Kind::Name)?;
+    ts.expect(i + 1, Kind::Colon)?;
+    type_at(ts, i + 2)
+}
+
+// [ ":" type ]
+pub fn result(ts: Tokens, i: usize) -> Result<TypeRead<Option<ValueType>>, Fault>
+    requires { i ≤ ts.count }
+    ensures { Told result_form (λ tok. result_of tok i) ts.entry.words.now ts.entry.count [] i 0 (told_result result) [] }
+{
+    if !ts.is(i, Kind::Colon) {
+        return Ok(TypeRead {
+            next: i,
+            value_type: None,
+        });
     }
-    type_at(ts, n, i + 1)
+    let typed = type_at(ts, i + 1)?;
+    Ok(TypeRead {
+        next: typed.next,
+        value_type: Some(typed.value_type),
+    })
 }

@@ -1,36 +1,24 @@
--- What statements and calls change: a local, the log, a new activation's lets; and what the words say of a function.
+-- What statements and calls change in the log, and what the words say of a function.
 use mathlib.Core.Path.{◌≡◌, refl, sym, ap, ◌∙◌}
-use mathlib.Core.List.{List, [], ◌∷◌, ◌++◌, append_assoc, append-nil}
+use mathlib.Core.List.{List, [], ◌∷◌}
 use Prim.Native.Nat.{ℕ, zero, suc, ◌+◌, ◌-◌, ◌≤◌, ◌<◌}
 use native.Mathlib.Numerals.{add-one}
 use native.Mathlib.Omega.{arith}
-use lib.ListN.{length, take, drop, set, replicate, length-set, replicate-append-replicate}
-use lib.Seq.{take-set-lt, take-suc-set, set_out, drop-set-lt, length-take-le, get_or-drop, drop-drop}
-use borrow.Author.Tests.{lt-ltb, le-ltb, ne_eqb}
-use Rattle.language.specs.Meaning.{World, bind, assign, append, log_full}
+use lib.ListN.{length, take, drop, set}
+use lib.Seq.{take-suc-set, length-take-le, get_or-drop, drop-drop}
+use borrow.Author.Tests.{lt-ltb, le-ltb}
+use Rattle.language.specs.Meaning.{bind, append}
 use Rattle.flat.specs.Words.{word, entry, function_of, block_of, sequence_of}
-use Rattle.interpreter.specs.declared.Flow.{Flow}
-use Rattle.interpreter.specs.declared.Flow.TheVariants as F
-use Rattle.interpreter.specs.Post.{world, Grows, Emits, finishes, Finishes, Heads}
-
-take_short : (c : ℕ) (ws : List ℕ) → length (take c ws) ≤ c
-take_short zero ws = omega arith
-take_short (suc c) [] = omega arith
-take_short (suc c) (x ∷ ws) = omega (arith, take_short c ws)
+use Rattle.std.specs.Prelude.{Ok, Err}
+use Rattle.flat.specs.declared.trap.Trap.TheVariants.{LogFull}
+use Rattle.interpreter.specs.declared.Stop.TheVariants.{Trapped}
+use Rattle.interpreter.specs.Post.{world, Grows, Emits, Heads}
 
 take_long : (m c : ℕ) (ws : List ℕ) → m ≤ c → m ≤ length ws → m ≤ length (take c ws)
 take_long zero c ws h g = omega arith
 take_long (suc m) zero ws h g = absurd (omega arith)
 take_long (suc m) (suc c) [] h g = absurd (omega arith)
 take_long (suc m) (suc c) (x ∷ ws) h g = omega (arith, take_long m c ws (omega arith) (omega arith))
-
--- a local
-
-pub assigned : (work : List ℕ) {work' : List ℕ} (c x v : ℕ) → x < c → work' ≡ set work x v → take c work' ≡ set (take c work) x v
-assigned work c x v l e = ap (take c) e ∙ take-set-lt c work x v l
-
-pub unassigned : (work : List ℕ) (c x v : ℕ) → c ≤ x → take c work ≡ set (take c work) x v
-unassigned work c x v l = sym (set_out (take c work) x v (omega (arith, take_short c work)))
 
 -- the log
 
@@ -46,70 +34,17 @@ pub grows_on : {room n₁ n₂ n₃ : ℕ} {l₁ l₂ l₃ : List ℕ} → Grows
 grows_on {room} {n₁} {n₂} {n₃} {l₁} {l₂} {l₃} x y =
     record { more = omega (arith, x.more, y.more); above = y.above ∙ drop_more n₂ n₃ l₂ l₁ y.more x.above; within = λ l. y.within (x.within l) }
 
-pub emitted_grows : (room n v : ℕ) (log : List ℕ) → n < room → Grows room n log (n + 1) (set log n v)
-emitted_grows room n v log l = record { more = omega arith; above = drop-set-lt (n + 1) log n v (omega arith); within = λ _. omega arith }
+pub grows_from : {room n n' m : ℕ} {log log' : List ℕ} → n' ≡ n → Grows room n' log m log' → Grows room n log m log'
+grows_from e g = rw (← e) g
 
-pub emitted : (fuel n room v : ℕ) (log arrays : List ℕ) → n < room → room ≤ length log → Emits room v (world fuel n log arrays) F.Next (world fuel (n + 1) (set log n v) arrays)
+pub emitted : {A : Type 0} (a : A) (fuel n room v : ℕ) (log arrays : List ℕ) → n < room → room ≤ length log → Emits room v (world fuel n log arrays) (Ok a) (world fuel (n + 1) (set log n v) arrays)
 unfolding append bind
-emitted fuel n room v log arrays l h =
+emitted a fuel n room v log arrays l h =
     record { same = λ ls. rw (length-take-le n log (omega arith), lt-ltb n room l, add-one n, take-suc-set log n v (omega arith)) }
 
-pub no_room : (fuel n room v : ℕ) (log arrays : List ℕ) → room ≤ n → room ≤ length log → Emits room v (world fuel n log arrays) (F.Trapped log_full) (world fuel n log arrays)
+pub no_room : {A : Type 0} (fuel n room v : ℕ) (log arrays : List ℕ) → room ≤ n → room ≤ length log → Emits {A = A} room v (world fuel n log arrays) (Err (Trapped LogFull)) (world fuel n log arrays)
 unfolding append bind
 no_room fuel n room v log arrays l h = record { same = λ ls. rw (le-ltb (length (take n log)) room (take_long room n log l h)) }
-
--- what is left to do with a value
-
-pub finish_put : (room : ℕ) (ws : List ℕ) (v : ℕ) (ls : List ℕ) (w : World) {k x : ℕ} {ls' : List ℕ} → k ≡ 0 → x ≡ word ws 1 → ls' ≡ set ls x v → Finishes room k ws v ls w F.Next ls' w
-unfolding finishes assign bind
-finish_put room ws v ls w e g h = record { same = rw (e, ← g, h) }
-
-pub finish_give : (room : ℕ) (ws : List ℕ) (v : ℕ) (ls : List ℕ) (w : World) {k : ℕ} → k ≡ 5 → Finishes room k ws v ls w (F.Returned v) ls w
-unfolding finishes
-finish_give room ws v ls w e = record { same = rw e }
-
-pub finish_emit : (ws ls : List ℕ) {room v k : ℕ} {w w' : World} {fl : Flow} → k ≡ 6 → Emits room v w fl w' → Finishes room k ws v ls w fl ls w'
-unfolding finishes
-finish_emit ws ls e x = record { same = rw e (x.same ls) }
-
-pub finish_drop : (room : ℕ) (ws : List ℕ) (v : ℕ) (ls : List ℕ) (w : World) {k : ℕ} → (k ≡ 0 → ⊥) → (k ≡ 5 → ⊥) → (k ≡ 6 → ⊥) → Finishes room k ws v ls w F.Next ls w
-unfolding finishes
-finish_drop room ws v ls w {k} a b d = record { same = rw (ne_eqb k 0 a, ne_eqb k 5 b, ne_eqb k 6 d) }
-
--- the lets
-
-pub record Clearing (work₀ : List ℕ) (a b : ℕ) (work : List ℕ) (i : ℕ) : Type 0 where
-  pub from : a ≤ i
-  pub to : i ≤ b
-  pub room : b ≤ length work
-  pub kept : length work ≡ length work₀
-  pub cleared : take i work ≡ take a work₀ ++ replicate (i - a) 0
-
-pub clearing_start : (work : List ℕ) (a b : ℕ) → a ≤ b → b ≤ length work → Clearing work a b work a
-clearing_start work a b l h =
-    record {
-      from = omega arith;
-      to = l;
-      room = h;
-      kept = refl;
-      cleared = sym (append-nil (take a work)) ∙ ap (λ (j : ℕ). take a work ++ replicate j 0) {x = 0} {y = a - a} (omega arith);
-    }
-
-pub clearing_next : {work₀ work : List ℕ} {a b i : ℕ} → Clearing work₀ a b work i → i < b → Clearing work₀ a b (set work i 0) (i + 1)
-clearing_next {work₀} {work} {a} {b} {i} x l =
-    record {
-      from = omega (arith, x.from);
-      to = omega arith;
-      room = omega (arith, x.room, length-set work i 0);
-      kept = length-set work i 0 ∙ x.kept;
-      cleared = rw (add-one i, take-suc-set work i 0 (omega (arith, x.room)), x.cleared, append_assoc) (ap (λ (zs : List ℕ). take a work₀ ++ zs) (replicate-append-replicate (i - a) 1 0 ∙
-          ap (λ (j : ℕ). replicate j 0) {x = i - a + 1} {y = suc i - a} (omega (arith, x.from))));
-    }
-
-pub clearing_end : {work₀ work : List ℕ} {a b i : ℕ} → Clearing work₀ a b work i → b ≤ i → take b work ≡ take a work₀ ++ replicate (b - a) 0
-clearing_end {work₀} {work} {a} {b} {i} x l =
-    let e : i ≡ b = omega (arith, x.to) in
-    ap (λ (j : ℕ). take j work) (sym e) ∙ (x.cleared ∙ ap (λ (j : ℕ). take a work₀ ++ replicate (j - a) 0) e)
 
 -- a function's words
 

@@ -1,4 +1,3 @@
-pub mod Lists
 pub mod Operate
 pub mod Moving
 pub mod Changing

@@ -4,72 +4,33 @@ use mathlib.Core.List.{List, [], ◌∷◌, ◌++◌, append_assoc, append-nil}
 use mathlib.Core.Bool.{Bool, true, false}
 use Prim.Native.Nat.{ℕ, zero, suc, ◌+◌, ◌-◌, ◌*◌, ◌≤◌, ◌<◌}
 use native.Mathlib.Omega.{arith}
-use lib.Dec.{ltb, eqb}
+use lib.Dec.{ltb}
 use lib.ListN.{length, get_or, take, drop, set, replicate, length-drop, get_or-eq_default}
 use lib.Seq.{drop-drop, take-suc, get_or-drop, take_all, length-take-le, get_or-take, take-take, take_at}
-use borrow.Author.Tests.{lt-ltb, le-ltb, le-leb, lt-leb, ltb-true, ltb-false, eq-eqb, ne_eqb}
-use types.Run.{OneOf, miss}
-use borrow.Enum.Refused.{Among, opened}
-use denote.Enum.Declared.{tag_of}
-use Rattle.word.specs.Choice.{pick}
+use borrow.Author.Tests.{lt-ltb, le-ltb, le-leb, lt-leb, ltb-true, ltb-false}
+use Rattle.std.specs.Prelude.{Option, Some, None, Ok, Err, IsErrAnd, unwrap_or}
+use Rattle.std.specs.Prelude as P
 use Rattle.language.specs.Rules.{most_locals}
-use Rattle.language.specs.Meaning.{World, Result, goes, stops, out_of_fuel, Act, bind, value, begin, begin_on, branch, write, index_outside, too_many_activations, Flow, next, followed, rounds, back}
-use Rattle.flat.specs.Items.{item, malformed, most_operands, begins, top, popped, Onward, step, scan, evaluate}
+use Rattle.language.specs.Meaning.{World, Result, goes, stops, out_of_fuel, Act, bind, value, begin, begin_on, branch, write, assign, Flow, next, followed, rounds, back}
+use Rattle.flat.specs.Items.{Kind, call, number, local, element, and, or, join, unknown, item, most_operands, begins, top, popped, Onward, step, scan, evaluate}
 use Rattle.flat.specs.Statements.{Stmt, fexec, fblock, fcall_at}
-use Rattle.flat.specs.Words.{word, words_per_item, kind_of, item_of, items_of, header_words, first_end, first, second, statements, statement_of, sequence_of, block_of, most_nesting}
+use Rattle.flat.specs.Words.{word, words_per_item, unaries, stricts, kind_of, item_of, items_of, header_words, first, second, statements, statement_of, sequence_of, block_of, most_nesting}
 use Rattle.flat.specs.Statements as S
-use Rattle.interpreter.specs.declared.Out.{Out}
-use Rattle.interpreter.specs.declared.Out.TheVariants.{Goes, Trapped, OutOfFuel}
-use Rattle.interpreter.specs.declared.Flow as D
-use Rattle.interpreter.specs.declared.Flow.TheVariants as F
-use Rattle.interpreter.specs.Post.{operands_at, value_of, onwards, Pushes, Moves, invoke_of, flows, halted_of, result_of, Steps, Enters, Calls, Scans, Blocks, Execs, first_block, second_block, Stores, finishes, Finishes, Heads}
-use Rattle.interpreter.specs.contracts.Out
-use Rattle.interpreter.specs.contracts.Flow as FlowProofs
-use Rattle.interpreter.proofs.Moving.{Stops, stop_on, drop_operands, length_operands, operands_same}
-
--- Outcomes
-
-pub is_go : (o : Out) → OneOf (0 ∷ []) (tag_of Out.the_type o) → (v : ℕ) × (o ≡ Goes v)
-is_go (Goes v) h = (v, refl)
-is_go (Trapped v) h = absurd (miss (0 ∷ []) 1 tt h)
-is_go OutOfFuel h = absurd (miss (0 ∷ []) 2 tt h)
-
-stopped_on : (o : Out) (ls : List ℕ) (w : World) (r : Result ℕ) → Stops o → onwards o w r ≡ value_of o ls w
-stopped_on (Goes v) ls w r h = absurd h
-stopped_on (Trapped v) ls w r h = refl
-stopped_on OutOfFuel ls w r h = refl
-
-halted_on : (o : Out) (ls ls' : List ℕ) (w : World) (k : ℕ → Act Flow) → Stops o → bind (value_of o ls w) k ≡ flows (halted_of o) ls' w
-unfolding bind
-halted_on (Goes v) ls ls' w k h = absurd h
-halted_on (Trapped v) ls ls' w k h = refl
-halted_on OutOfFuel ls ls' w k h = refl
-
--- a statement that leads anywhere but to the next one
-abbrev pub Leaves : D.Flow → Type 0
-Leaves F.Next = ⊥
-Leaves (F.Returned v) = Unit {0}
-Leaves (F.Trapped n) = Unit {0}
-Leaves F.OutOfFuel = Unit {0}
-
-pub leaves : (fl : D.Flow) → Among (1 ∷ 2 ∷ 3 ∷ []) (tag_of FlowProofs.the_type fl) → Leaves fl
-leaves F.Next h = absurd (miss (1 ∷ 2 ∷ 3 ∷ []) 0 tt (opened h))
-leaves (F.Returned v) h = tt
-leaves (F.Trapped n) h = tt
-leaves F.OutOfFuel h = tt
-
-pub is_next : (fl : D.Flow) → OneOf (0 ∷ []) (tag_of FlowProofs.the_type fl) → fl ≡ F.Next
-is_next F.Next h = refl
-is_next (F.Returned v) h = absurd (miss (0 ∷ []) 1 tt h)
-is_next (F.Trapped n) h = absurd (miss (0 ∷ []) 2 tt h)
-is_next F.OutOfFuel h = absurd (miss (0 ∷ []) 3 tt h)
-
-left_on : (fl : D.Flow) (ls : List ℕ) (w : World) (m : Act Flow) → Leaves fl → bind (flows fl ls w) (λ f. followed f m) ≡ flows fl ls w
-unfolding bind
-left_on F.Next ls w m h = absurd h
-left_on (F.Returned v) ls w m h = refl
-left_on (F.Trapped n) ls w m h = refl
-left_on F.OutOfFuel ls w m h = refl
+use Rattle.flat.specs.Numbers.{kind_number, statement_number}
+use Rattle.flat.proofs.Tables.{no_kind}
+use Rattle.flat.specs.declared.item.Kind as IK
+use Rattle.flat.specs.declared.item.Kind.TheVariants as I
+use Rattle.flat.specs.declared.statement.Kind as SK
+use Rattle.flat.specs.declared.statement.Kind.TheVariants as V
+use Rattle.flat.specs.declared.trap.Trap.TheVariants.{Malformed, IndexOutside, TooManyActivations}
+use Rattle.interpreter.specs.declared.Stop.{Stop}
+use Rattle.interpreter.specs.declared.Stop.TheVariants.{Trapped, OutOfFuel}
+use Rattle.interpreter.specs.declared.Span.{Span}
+use Rattle.interpreter.specs.declared.items.Move.{Move}
+use Rattle.interpreter.specs.declared.walk.Step.{Step}
+use Rattle.interpreter.specs.Post.{world, operands_at, value_of, onwards, Pushes, Moves, invoke_of, flows, Steps, Acts, Calls, Scans, Blocks, Execs, first_block, second_block, Stores, Emits, Heads, Roomy, Frame}
+use Rattle.interpreter.proofs.Moving.{refused, moved, moved_on, moved_fits, drop_operands, length_operands, operands_same}
+use Rattle.interpreter.proofs.Operate.{numbered}
 
 pos_of : (n m : ℕ) → (n ≡ 0 → ⊥) → m ≡ n - 1 → n ≡ suc m
 pos_of zero m h e = absurd (h refl)
@@ -128,8 +89,63 @@ pub item_is : (ws : List ℕ) {k c a b : ℕ} → k ≡ word ws 0 → c ≡ word
 unfolding item_of
 item_is ws x y z u = rw (x, y, z, u)
 
-onwards_as : (o : Out) (w : World) {a b : Result ℕ} → a ≡ b → onwards o w a ≡ onwards o w b
-onwards_as o w e = ap (onwards o w) e
+onwards_as : {A : Type 0} (o : P.Result A Stop) (w : World) {f g : A → Result ℕ} → ((a : A) → f a ≡ g a) → onwards o w f ≡ onwards o w g
+onwards_as (Ok a) w e = e a
+onwards_as (Err s) w e = refl
+
+-- what an item that calls nothing does, it does in an activation
+pub acts : (t : List ℕ) (room left f n : ℕ) (log : List ℕ) {xs : List ℕ} {i : Kind} {c h : ℕ} {work work' : List ℕ} {o : P.Result Move Stop} →
+    Moves work c h xs i o work' → Acts t room left i c h work (world f n log xs) o work' (world f n log xs)
+acts t room left f n log m = record { same = λ k. m.same (invoke_of t room left) k f (take n log); fits = m.fits }
+
+-- an item by its kind's number
+module _ {t : List ℕ} {room left n c h : ℕ} {work : List ℕ} {w : World} {o : P.Result Move Stop} {work' : List ℕ} {w' : World} (a b : ℕ) where
+  module _ {k : IK.Kind} (e : kind_number k ≡ n) where
+    by_kind : (j : IK.Kind) {i : Kind} → k ≡ j → kind_of (kind_number j) a b ≡ i → Acts t room left i c h work w o work' w' → Acts t room left (kind_of n a b) c h work w o work' w'
+    by_kind j z g x = rw (numbered kind_number e z, g) x
+
+    pub is_number : k ≡ I.Number → Acts t room left (number a) c h work w o work' w' → Acts t room left (kind_of n a b) c h work w o work' w'
+    unfolding kind_of
+    is_number z x = by_kind I.Number z refl x
+
+    pub is_local : k ≡ I.Local → Acts t room left (local a) c h work w o work' w' → Acts t room left (kind_of n a b) c h work w o work' w'
+    unfolding kind_of
+    is_local z x = by_kind I.Local z refl x
+
+    pub is_element : k ≡ I.Element → Acts t room left (element (record { offset = a; size = b })) c h work w o work' w' → Acts t room left (kind_of n a b) c h work w o work' w'
+    unfolding kind_of
+    is_element z x = by_kind I.Element z refl x
+
+    pub is_call : k ≡ I.Call → Acts t room left (call a b) c h work w o work' w' → Acts t room left (kind_of n a b) c h work w o work' w'
+    unfolding kind_of
+    is_call z x = by_kind I.Call z refl x
+
+    pub is_unary : k ≡ I.Unary → Acts t room left (get_or unaries a unknown) c h work w o work' w' → Acts t room left (kind_of n a b) c h work w o work' w'
+    unfolding kind_of
+    is_unary z x = by_kind I.Unary z refl x
+
+    pub is_strict : k ≡ I.Strict → Acts t room left (get_or stricts a unknown) c h work w o work' w' → Acts t room left (kind_of n a b) c h work w o work' w'
+    unfolding kind_of
+    is_strict z x = by_kind I.Strict z refl x
+
+    pub is_and : k ≡ I.And → Acts t room left (and a) c h work w o work' w' → Acts t room left (kind_of n a b) c h work w o work' w'
+    unfolding kind_of
+    is_and z x = by_kind I.And z refl x
+
+    pub is_or : k ≡ I.Or → Acts t room left (or a) c h work w o work' w' → Acts t room left (kind_of n a b) c h work w o work' w'
+    unfolding kind_of
+    is_or z x = by_kind I.Or z refl x
+
+    pub is_join : k ≡ I.Join → Acts t room left join c h work w o work' w' → Acts t room left (kind_of n a b) c h work w o work' w'
+    unfolding kind_of
+    is_join z x = by_kind I.Join z refl x
+
+  pub is_unknown : {s : Stop} → 8 < n → IsErrAnd o (λ e. e ≡ s) → Acts t room left unknown c h work w (Err s) work' w' → Acts t room left (kind_of n a b) c h work w o work' w'
+  is_unknown l g x = rw (no_kind n a b l, refused o g) x
+
+pub act_err : {t : List ℕ} {room left c h : ℕ} {work : List ℕ} {w : World} {work' : List ℕ} {w' : World} {i : Kind} {s : Stop} (o : P.Result Move Stop) →
+    IsErrAnd o (λ e. e ≡ s) → Acts t room left i c h work w (Err s) work' w' → Acts t room left i c h work w o work' w'
+act_err o g x = rw (refused o g) x
 
 -- one item of a scan, from what its words are
 module _ (t : List ℕ) (room left n : ℕ) (ws : List ℕ) (c h : ℕ) (work : List ℕ) (f : ℕ) (l xs : List ℕ) (pos : 0 < n) (k ch a b : ℕ) (ei : item_of ws ≡ item ch (kind_of k a b)) where
@@ -146,31 +162,24 @@ module _ (t : List ℕ) (room left n : ℕ) (ws : List ℕ) (c h : ℕ) (work : 
   unfolding bind
   paid r q z = whole r (rw (pay ch f (take c work) l xs q) z)
 
-  pub one_dry : (m : ℕ) (ws' : List ℕ) → f < ch → m < n → h ≤ most_operands → Steps t room left n ws c h work (wd f l xs) OutOfFuel m ws' h work (wd 0 l xs)
+  pub one_dry : (r : P.Result Step Stop) {s : Stop} {f' : ℕ} {l' : List ℕ} → IsErrAnd r (λ e. e ≡ s) → s ≡ OutOfFuel → f < ch → f' ≡ 0 → l' ≡ l → Steps t room left n ws c h work (wd f l xs) r work (wd f' l' xs)
   unfolding bind
-  one_dry m ws' q z y = record { same = whole _ (rw (dry ch f (take c work) l xs q)); fits = y; fewer = z }
+  one_dry r g z q d e = rw (refused r g, z, d, e) (record { same = whole _ (rw (dry ch f (take c work) l xs q)); fits = tt; fewer = tt })
 
-  pub one_moves : {o : Out} {skip h' m : ℕ} {work' ws' : List ℕ} → ch ≤ f → Moves work c h xs (kind_of k a b) o skip h' work' → m ≡ n - 1 - skip → ws' ≡ drop (words_per_item + words_per_item * skip) ws →
-      Steps t room left n ws c h work (wd f l xs) o m ws' h' work' (wd (f - ch) l xs)
-  one_moves {o} {skip} {h'} {m} {work'} {ws'} q x d e =
-      record {
-        same = paid _ q (x.same (invoke_of t room left) on (f - ch) l ∙ onwards_as o _ (skip_items (invoke_of t room left) (n - 1) skip (drop words_per_item ws) (operands_at work' c h') (take c work') (wd (f - ch) l xs) ∙
-            (ap (λ (us : List ℕ). scan (invoke_of t room left) (items_of (n - 1 - skip) us) 0 (operands_at work' c h') (take c work') (wd (f - ch) l xs)) (drop-drop (words_per_item * skip) words_per_item ws ∙ sym e) ∙
-            ap (λ (j : ℕ). scan (invoke_of t room left) (items_of j ws') 0 (operands_at work' c h') (take c work') (wd (f - ch) l xs)) (sym d))));
-        fits = x.fits;
-        fewer = omega arith;
-      }
+  module _ {f' : ℕ} {l' : List ℕ} (q : ch ≤ f) (d : f' ≡ f - ch) (e : l' ≡ l) where
+    pub one_stops : (r : P.Result Step Stop) {s : Stop} {work' : List ℕ} {w' : World} → IsErrAnd r (λ e. e ≡ s) → Acts t room left (kind_of k a b) c h work (wd f' l' xs) (Err s) work' w' → Steps t room left n ws c h work (wd f l xs) r work' w'
+    one_stops r g x = rw (refused r g) (record { same = paid _ q (rw (← d, ← e) (x.same on)); fits = tt; fewer = tt })
 
-  pub one_enters : {o : Out} {h' m : ℕ} {work' ws' : List ℕ} {w' : World} → ch ≤ f → k ≡ 3 → Enters t room left a b c h work (wd (f - ch) l xs) o h' work' w' → m ≡ n - 1 → ws' ≡ drop words_per_item ws →
-      Steps t room left n ws c h work (wd f l xs) o m ws' h' work' w'
-  unfolding kind_of
-  one_enters {o} {h'} {m} {work'} {ws'} {w'} q z x d e =
-      record {
-        same = paid _ q (rw z (x.same on) ∙ onwards_as o w' (ap (λ (us : List ℕ). scan (invoke_of t room left) (items_of (n - 1) us) 0 (operands_at work' c h') (take c work') w') (sym e) ∙
-            ap (λ (j : ℕ). scan (invoke_of t room left) (items_of j ws') 0 (operands_at work' c h') (take c work') w') (sym d)));
-        fits = x.fits;
-        fewer = omega arith;
-      }
+    pub one_acts : {m : Move} {at : Span} {work' : List ℕ} {w' : World} → Acts t room left (kind_of k a b) c h work (wd f' l' xs) (Ok m) work' w' → at.n ≡ n - 1 - m.skip → drop at.p t ≡ drop (words_per_item + words_per_item * m.skip) ws →
+        Steps t room left n ws c h work (wd f l xs) (Ok (record { at = at; h = m.h })) work' w'
+    one_acts {m} {at} {work'} {w'} x y z =
+        record {
+          same = paid _ q (rw (← d, ← e) (x.same on) ∙ (skip_items (invoke_of t room left) (n - 1) m.skip (drop words_per_item ws) (operands_at work' c m.h) (take c work') w' ∙
+              (ap (λ (us : List ℕ). scan (invoke_of t room left) (items_of (n - 1 - m.skip) us) 0 (operands_at work' c m.h) (take c work') w') (drop-drop (words_per_item * m.skip) words_per_item ws ∙ sym z) ∙
+              ap (λ (j : ℕ). scan (invoke_of t room left) (items_of j (drop at.p t)) 0 (operands_at work' c m.h) (take c work') w') (sym y))));
+          fits = x.fits;
+          fewer = omega (arith, y);
+        }
 
 -- The loop over items
 
@@ -183,44 +192,48 @@ unfolding evaluate operands_at
 scanning_start t room left n ws c work w = record { rest = refl; fits = omega arith }
 
 module _ {t : List ℕ} {room left n₀ : ℕ} {ws₀ ls₀ : List ℕ} {w₀ : World} {c m : ℕ} {ws : List ℕ} {h : ℕ} {work : List ℕ} {w : World} (i : Scanning t room left n₀ ws₀ ls₀ w₀ c m ws h work w) where
-  pub scanning_next : {o : Out} {m' h' : ℕ} {ws' work' : List ℕ} {w' : World} → Steps t room left m ws c h work w o m' ws' h' work' w' → (v : ℕ) × (o ≡ Goes v) → Scanning t room left n₀ ws₀ ls₀ w₀ c m' ws' h' work' w'
-  scanning_next {o} {m'} {h'} {ws'} {work'} {w'} x g =
-      record { rest = i.rest ∙ (x.same ∙ ap (λ (u : Out). onwards u w' (scan (invoke_of t room left) (items_of m' ws') 0 (operands_at work' c h') (take c work') w')) g.1); fits = x.fits }
+  pub scanning_next : {s : Step} {work' : List ℕ} {w' : World} → Steps t room left m ws c h work w (Ok s) work' w' → Scanning t room left n₀ ws₀ ls₀ w₀ c s.at.n (drop s.at.p t) s.h work' w'
+  scanning_next x = record { rest = i.rest ∙ x.same; fits = x.fits }
 
-  pub scanning_stop : (ls' : List ℕ) {o : Out} {m' h' : ℕ} {ws' work' : List ℕ} {w' : World} → Steps t room left m ws c h work w o m' ws' h' work' w' → Stops o → Scans t room left n₀ ws₀ ls₀ w₀ o ls' w'
-  scanning_stop ls' {o} x z = record { same = i.rest ∙ (x.same ∙ stopped_on o ls' _ _ z) }
+  pub scanning_stop : (r : P.Result ℕ Stop) (ls' : List ℕ) {s : Stop} {work' : List ℕ} {w' : World} → IsErrAnd r (λ e. e ≡ s) → Steps t room left m ws c h work w (Err s) work' w' → Scans t room left n₀ ws₀ ls₀ w₀ r ls' w'
+  scanning_stop r ls' g x = rw (refused r g) (record { same = i.rest ∙ x.same })
 
-  pub scanning_end : {v : ℕ} → m ≤ 0 → v ≡ top (operands_at work c h) → Scans t room left n₀ ws₀ ls₀ w₀ (Goes v) (take c work) w
+  pub scanning_end : {v : ℕ} → m ≤ 0 → v ≡ top (operands_at work c h) → Scans t room left n₀ ws₀ ls₀ w₀ (Ok v) (take c work) w
   unfolding items_of scan
   scanning_end {v} z d =
       record { same = i.rest ∙ (ap (λ (j : ℕ). scan (invoke_of t room left) (items_of j ws) 0 (operands_at work c h) (take c work) w) (zero_of m z) ∙ ap (λ (j : ℕ). goes j (take c work) w) (sym d)) }
 
 -- Calls
 
-back_flows : (room : ℕ) (fl : D.Flow) (ls ls' : List ℕ) (w : World) → back room ls (flows fl ls' w) ≡ value_of (result_of fl) ls w
+back_flows : (room : ℕ) (r : Option ℕ) (ls ls' : List ℕ) (w : World) → back room ls (flows (Ok r) ls' w) ≡ value_of (Ok (unwrap_or r 0)) ls w
 unfolding back
-back_flows room F.Next ls ls' w = refl
-back_flows room (F.Returned v) ls ls' w = refl
-back_flows room (F.Trapped n) ls ls' w = refl
-back_flows room F.OutOfFuel ls ls' w = refl
+back_flows room None ls ls' w = refl
+back_flows room (Some v) ls ls' w = refl
 
 module _ (t : List ℕ) (room left f : ℕ) (vs : List ℕ) (w : World) where
-  pub call_deep : left ≡ 0 → Calls t room left f vs w (Trapped too_many_activations) w
+  pub call_deep : left ≡ 0 → Calls t room left f vs w (Err (Trapped TooManyActivations)) w
   unfolding fcall_at
   call_deep z = record { same = λ ls. rw z }
 
   module _ (left' : ℕ) {n c place statements lets : ℕ} (nz : left ≡ 0 → ⊥) (el : left' ≡ left - 1) (x : Heads t f place statements lets) (ev : length vs ≡ n) (ec : c ≡ n + lets) where
-    pub call_malformed : most_locals < c → Calls t room left f vs w (Trapped malformed) w
+    pub call_malformed : most_locals < c → Calls t room left f vs w (Err (Trapped Malformed)) w
     unfolding fcall_at
     call_malformed l = record { same = λ ls. rw (pos_of left left' nz el, x.locals, ev, lt-leb (n + lets) most_locals (omega arith)) }
 
-    pub call_body : {fl : D.Flow} {out : Out} {ls ls' : List ℕ} {w' : World} → c ≤ most_locals → ls ≡ vs ++ replicate (c - n) 0 → Blocks t room left' most_nesting statements (drop place t) ls w fl ls' w' →
-        out ≡ result_of fl → Calls t room left f vs w out w'
-    unfolding fcall_at
-    call_body {fl} {out} {ls} {ls'} {w'} l e y r =
-        let q : c - n ≡ lets = omega arith in
-        let e' : vs ++ replicate lets 0 ≡ ls = ap (λ (j : ℕ). vs ++ replicate j 0) (sym q) ∙ sym e in
-        record { same = λ us. rw (pos_of left left' nz el, x.locals, ev, le-leb (n + lets) most_locals (omega arith), x.body, e', y.same, r) (back_flows room fl us ls' w') }
+    module _ (l : c ≤ most_locals) {ls : List ℕ} (e : ls ≡ vs ++ replicate (c - n) 0) where
+      called : (us : List ℕ) {o : P.Result (Option ℕ) Stop} {ls' : List ℕ} {w' : World} → Blocks t room left' most_nesting statements (drop place t) ls w o ls' w' → invoke_of t room left f vs us w ≡ back room us (flows o ls' w')
+      unfolding fcall_at
+      called us y =
+          let q : c - n ≡ lets = omega arith in
+          let e' : vs ++ replicate lets 0 ≡ ls = ap (λ (j : ℕ). vs ++ replicate j 0) (sym q) ∙ sym e in
+          rw (pos_of left left' nz el, x.locals, ev, le-leb (n + lets) most_locals (omega arith), x.body, e', y.same)
+
+      pub call_body : {r : Option ℕ} {v : ℕ} {ls' : List ℕ} {w' : World} → Blocks t room left' most_nesting statements (drop place t) ls w (Ok r) ls' w' → v ≡ unwrap_or r 0 → Calls t room left f vs w (Ok v) w'
+      call_body {r} {ls' = ls'} {w' = w'} y g = record { same = λ us. called us y ∙ (back_flows room r us ls' w' ∙ ap (λ (j : ℕ). goes j us w') (sym g)) }
+
+      pub call_stops : (r : P.Result ℕ Stop) {s : Stop} {ls' : List ℕ} {w' : World} → IsErrAnd r (λ e. e ≡ s) → Blocks t room left' most_nesting statements (drop place t) ls w (Err s) ls' w' → Calls t room left f vs w r w'
+      unfolding back
+      call_stops r g y = rw (refused r g) (record { same = λ us. called us y })
 
 take_snoc : (work : List ℕ) (b n : ℕ) (more : List ℕ) → b + n < length work → take (suc n) (drop b work) ++ more ≡ take n (drop b work) ++ (get_or work (b + n) 0 ∷ more)
 take_snoc work b n more l = rw (take-suc (drop b work) n 0 (omega (arith, length-drop b work)), get_or-drop b work n 0, append_assoc)
@@ -258,40 +271,24 @@ below_take : {a : ℕ} {work us : List ℕ} → Below a work us → (c : ℕ) �
 below_take {a} {work} {us} x c l = sym (take-take c a us l) ∙ (ap (take c) x.same ∙ take-take c a work l)
 
 module _ (t : List ℕ) (room left f n c h : ℕ) (work : List ℕ) (w : World) where
-  pub enter_few : h < n → h ≤ most_operands → Enters t room left f n c h work w (Trapped malformed) h work w
+  pub enter_few : h < n → Acts t room left (call f n) c h work w (Err (Trapped Malformed)) work w
   unfolding step
-  enter_few l q = record { same = λ k. rw (length_operands work c h, lt-ltb h n l); fits = q }
+  enter_few l = record { same = λ k. rw (length_operands work c h, lt-ltb h n l); fits = tt }
 
-  module _ {vs : List ℕ} {o : Out} {w' : World} (l : n ≤ h) (q : h ≤ most_operands) (ev : popped n (operands_at work c h) [] ≡ vs) (x : Calls t room left f vs w o w') where
-    pub enter_stop : (work' : List ℕ) → Stops o → Enters t room left f n c h work w o (h - n) work' w'
-    unfolding step
-    enter_stop work' z = record { same = λ k. rw (length_operands work c h, le-ltb h n l, ev, x.same (take c work)) (stop_on o _ _ _ _ z); fits = omega arith }
-
-    pub enter_back : {v h' : ℕ} {us work' : List ℕ} {o' : Out} → o ≡ Goes v → Below (c + (h - n)) work us → Pushes us c (h - n) v o' h' work' → Enters t room left f n c h work w o' h' work' w'
+  module _ {vs : List ℕ} (l : n ≤ h) (q : h ≤ most_operands) (ev : popped n (operands_at work c h) [] ≡ vs) where
+    pub enter_stop : (r : P.Result Move Stop) (work' : List ℕ) {s : Stop} {w' : World} → IsErrAnd r (λ e. e ≡ s) → Calls t room left f vs w (Err s) w' → Acts t room left (call f n) c h work w r work' w'
     unfolding step bind
-    enter_back {v} {h'} {us} {work'} {o'} z b p =
+    enter_stop r work' g x = rw (refused r g) (record { same = λ k. rw (length_operands work c h, le-ltb h n l, ev, x.same (take c work)); fits = tt })
+
+    pub enter_back : {v : ℕ} {w' : World} {us work' : List ℕ} {o : P.Result ℕ Stop} → Calls t room left f vs w (Ok v) w' → Below (c + (h - n)) work us → Pushes us c (h - n) v o work' → Acts t room left (call f n) c h work w (moved 0 o) work' w'
+    unfolding step bind
+    enter_back {v} {w'} {us} {work'} {o} x b p =
         let e : operands_at work c (h - n) ≡ operands_at us c (h - n) = sym (operands_same work us c (h - n) (below_at b)) in
-        let g : take c work ≡ take c work' = sym (p.locals ∙ below_take b c (omega arith)) in
+        let g : take c work' ≡ take c work = p.locals ∙ below_take b c (omega arith) in
         record {
-          same = λ k. rw (length_operands work c h, le-ltb h n l, ev, x.same (take c work), z, drop_operands work c h n, e) (p.same k (take c work) w' ∙ ap (λ (ls : List ℕ). onwards o' w' (k 0 (operands_at work' c h') ls w')) g);
-          fits = p.fits;
+          same = λ k. rw (length_operands work c h, le-ltb h n l, ev, x.same (take c work), drop_operands work c h n, e) (p.same k (take c work) w' ∙ moved_on 0 o k c work' w' g);
+          fits = moved_fits 0 o p.fits;
         }
-
--- What stands at a place
-
-pub items_at : {n m : ℕ} {es us : List ℕ} → n ≡ m → es ≡ us → items_of n es ≡ items_of m us
-items_at e d = rw (e, d)
-
-pub block_at : (depth : ℕ) {n m : ℕ} {es us : List ℕ} → n ≡ m → es ≡ us → block_of depth n es ≡ block_of depth m us
-block_at depth e d = rw (e, d)
-
-pub chosen_second : (depth : ℕ) (ws : List ℕ) {v n k : ℕ} {us vs : List ℕ} → v ≡ 0 → n ≡ word ws 6 → k ≡ word ws 1 → vs ≡ drop (first_end ws) ws → us ≡ drop k vs →
-    block_of depth n us ≡ branch v (first_block depth ws) (second_block depth ws)
-chosen_second depth ws z en ek ef d = rw (z, en, d, ef, ek, drop-drop (word ws 1) (first_end ws) ws)
-
-pub chosen_first : (v : ℕ) {x : S.Block} (p q : S.Block) → (v ≡ 0 → ⊥) → x ≡ p → x ≡ branch v p q
-chosen_first zero p q z e = absurd (z refl)
-chosen_first (suc v) p q z e = e
 
 -- Statements
 
@@ -307,75 +304,108 @@ module _ (t : List ℕ) (room left depth : ℕ) (ws : List ℕ) where
   abbrev val : Act ℕ
   val = evaluate (invoke_of t room left) (first ws)
 
-  is_kind : (k : ℕ) {fl : D.Flow} {ls ls' : List ℕ} {w w' : World} → word ws 0 ≡ k → run k ls w ≡ flows fl ls' w' → Execs t room left depth ws ls w fl ls' w'
+  is_kind : (k : ℕ) {o : P.Result (Option ℕ) Stop} {ls ls' : List ℕ} {w w' : World} → word ws 0 ≡ k → run k ls w ≡ flows o ls' w' → Execs t room left depth ws ls w o ls' w'
   is_kind k {ls = ls} {w = w} e q = record { same = ap (λ (j : ℕ). run j ls w) e ∙ q }
 
-  -- what is left of a statement after its first expression's value
-  abbrev rest : ℕ → ℕ → Act Flow
-  rest k v =
-      pick (eqb k 1) (λ ls w. bind (evaluate (invoke_of t room left) (second ws) ls w) (λ u ls₁ w₁. bind (write (record { offset = word ws 1; size = word ws 2 }) v u ls₁ w₁) (λ _. value next)))
-      (pick (eqb k 2) (branch v (fblock room (invoke_of t room left) (block_of depth (word ws 5) (drop (first_end ws) ws))) (fblock room (invoke_of t room left) (block_of depth (word ws 6) (drop (first_end ws + word ws 1) ws))))
-      (finishes room k ws v))
+  scanned : {m : ℕ} {es ls ls' : List ℕ} {w w' : World} {o : P.Result ℕ Stop} → items_of m es ≡ first ws → Scans t room left m es ls w o ls' w' → val ls w ≡ value_of o ls' w'
+  scanned ee x = rw (← ee) x.same
 
-  valued_kind : (k : ℕ) → k ≤ 7 → (k ≡ 3 → ⊥) → (k ≡ 4 → ⊥) → (ls : List ℕ) (w : World) → run k ls w ≡ bind (val ls w) (rest k)
-  unfolding fexec statement_of finishes
-  valued_kind zero l a b ls w = refl
-  valued_kind (suc zero) l a b ls w = refl
-  valued_kind (suc (suc zero)) l a b ls w = refl
-  valued_kind (suc (suc (suc zero))) l a b ls w = absurd (a refl)
-  valued_kind (suc (suc (suc (suc zero)))) l a b ls w = absurd (b refl)
-  valued_kind (suc (suc (suc (suc (suc zero))))) l a b ls w = refl
-  valued_kind (suc (suc (suc (suc (suc (suc zero)))))) l a b ls w = refl
-  valued_kind (suc (suc (suc (suc (suc (suc (suc zero))))))) l a b ls w = refl
-  valued_kind (suc (suc (suc (suc (suc (suc (suc (suc k)))))))) l a b ls w = absurd (omega arith)
+  -- the number n of kind k that the statement's first word is
+  module _ {n : ℕ} {k : SK.Kind} (en : n ≡ word ws 0) (e : statement_number k ≡ n) where
+    by_name : (j : SK.Kind) {o : P.Result (Option ℕ) Stop} {ls ls' : List ℕ} {w w' : World} → k ≡ j → run (statement_number j) ls w ≡ flows o ls' w' → Execs t room left depth ws ls w o ls' w'
+    by_name j z q = is_kind (statement_number j) (sym en ∙ numbered statement_number e z) q
 
-  pub stmt_leave : {k : ℕ} (ls : List ℕ) (w : World) → k ≡ word ws 0 → k ≡ 4 → Execs t room left depth ws ls w (F.Returned 0) ls w
+    pub stmt_leave : (ls : List ℕ) (w : World) → k ≡ V.Leave → Execs t room left depth ws ls w (Ok (Some 0)) ls w
+    unfolding fexec statement_of
+    stmt_leave ls w z = by_name V.Leave z refl
+
+    pub stmt_while : k ≡ V.While → word ws 0 ≡ 3
+    stmt_while z = sym en ∙ numbered statement_number e z
+
+    module _ {m : ℕ} {es ls ls' : List ℕ} {w w' : World} (ee : items_of m es ≡ first ws) where
+      module _ {s : Stop} (x : Scans t room left m es ls w (Err s) ls' w') where
+        stopped : (j : SK.Kind) (q : ℕ → Act Flow) (r : P.Result (Option ℕ) Stop) (us : List ℕ) → k ≡ j → run (statement_number j) ls w ≡ bind (val ls w) q → IsErrAnd r (λ e. e ≡ s) → Execs t room left depth ws ls w r us w'
+        unfolding bind
+        stopped j q r us z y g = rw (refused r g) (by_name j z (y ∙ ap (λ (o : Result ℕ). bind o q) (scanned ee x)))
+
+        pub put_stops : (r : P.Result (Option ℕ) Stop) (us : List ℕ) → k ≡ V.Put → IsErrAnd r (λ e. e ≡ s) → Execs t room left depth ws ls w r us w'
+        unfolding fexec statement_of
+        put_stops r us z g = stopped V.Put _ r us z refl g
+
+        pub store_stops : (r : P.Result (Option ℕ) Stop) (us : List ℕ) → k ≡ V.Store → IsErrAnd r (λ e. e ≡ s) → Execs t room left depth ws ls w r us w'
+        unfolding fexec statement_of
+        store_stops r us z g = stopped V.Store _ r us z refl g
+
+        pub choose_stops : (r : P.Result (Option ℕ) Stop) (us : List ℕ) → k ≡ V.Choose → IsErrAnd r (λ e. e ≡ s) → Execs t room left depth ws ls w r us w'
+        unfolding fexec statement_of
+        choose_stops r us z g = stopped V.Choose _ r us z refl g
+
+        pub give_stops : (r : P.Result (Option ℕ) Stop) (us : List ℕ) → k ≡ V.Give → IsErrAnd r (λ e. e ≡ s) → Execs t room left depth ws ls w r us w'
+        unfolding fexec statement_of
+        give_stops r us z g = stopped V.Give _ r us z refl g
+
+        pub emit_stops : (r : P.Result (Option ℕ) Stop) (us : List ℕ) → k ≡ V.Emit → IsErrAnd r (λ e. e ≡ s) → Execs t room left depth ws ls w r us w'
+        unfolding fexec statement_of
+        emit_stops r us z g = stopped V.Emit _ r us z refl g
+
+        pub run_stops : (r : P.Result (Option ℕ) Stop) (us : List ℕ) → k ≡ V.Run → IsErrAnd r (λ e. e ≡ s) → Execs t room left depth ws ls w r us w'
+        unfolding fexec statement_of
+        run_stops r us z g = stopped V.Run _ r us z refl g
+
+      module _ {v : ℕ} (x : Scans t room left m es ls w (Ok v) ls' w') where
+        valued : (j : SK.Kind) (q : ℕ → Act Flow) {o : P.Result (Option ℕ) Stop} {us : List ℕ} {w'' : World} → k ≡ j → run (statement_number j) ls w ≡ bind (val ls w) q → q v ls' w' ≡ flows o us w'' → Execs t room left depth ws ls w o us w''
+        unfolding bind
+        valued j q z y g = by_name j z (y ∙ (ap (λ (o : Result ℕ). bind o q) (scanned ee x) ∙ g))
+
+        pub put_done : {a : ℕ} {us : List ℕ} → k ≡ V.Put → a ≡ word ws 1 → us ≡ set ls' a v → Execs t room left depth ws ls w (Ok None) us w'
+        unfolding fexec statement_of assign bind
+        put_done z ea h = valued V.Put _ z refl (rw (← ea, h))
+
+        pub store_done : {o : P.Result (Option ℕ) Stop} {us : List ℕ} {w'' : World} → k ≡ V.Store → Stores t room left ws v ls' w' o us w'' → Execs t room left depth ws ls w o us w''
+        unfolding fexec statement_of
+        store_done z y = valued V.Store _ z refl y.same
+
+        pub choose_done : {n : ℕ} {qs : List ℕ} {o : P.Result (Option ℕ) Stop} {us : List ℕ} {w'' : World} → k ≡ V.Choose → block_of depth n qs ≡ branch v (first_block depth ws) (second_block depth ws) →
+            Blocks t room left depth n qs ls' w' o us w'' → Execs t room left depth ws ls w o us w''
+        unfolding fexec statement_of
+        choose_done z g y =
+            valued V.Choose _ z refl (branch_on v (fblock room (invoke_of t room left)) (first_block depth ws) (second_block depth ws) ls' w' ∙
+            (ap (λ (q : S.Block). fblock room (invoke_of t room left) q ls' w') (sym g) ∙ y.same))
+
+        pub give_done : k ≡ V.Give → Execs t room left depth ws ls w (Ok (Some v)) ls' w'
+        unfolding fexec statement_of
+        give_done z = valued V.Give _ z refl refl
+
+        pub run_done : k ≡ V.Run → Execs t room left depth ws ls w (Ok None) ls' w'
+        unfolding fexec statement_of
+        run_done z = valued V.Run _ z refl refl
+
+        pub emit_done : {A : Type 0} {a : A} {w'' : World} → k ≡ V.Emit → Emits room v w' (Ok a) w'' → Execs t room left depth ws ls w (Ok None) ls' w''
+        unfolding fexec statement_of
+        emit_done z y = valued V.Emit _ z refl (y.same ls')
+
+        pub log_full : {A : Type 0} (r : P.Result (Option ℕ) Stop) {s : Stop} {w'' : World} → k ≡ V.Emit → Emits {A = A} room v w' (Err s) w'' → IsErrAnd r (λ e. e ≡ s) → Execs t room left depth ws ls w r ls' w''
+        unfolding fexec statement_of
+        log_full r z y g = rw (refused r g) (valued V.Emit _ z refl (y.same ls'))
+
+  pub stmt_unknown : {n : ℕ} (r : P.Result (Option ℕ) Stop) (ls : List ℕ) (w : World) → n ≡ word ws 0 → 7 < n → IsErrAnd r (λ e. e ≡ Trapped Malformed) → Execs t room left depth ws ls w r ls w
   unfolding fexec statement_of
-  stmt_leave ls w e z = is_kind 4 (sym e ∙ z) refl
-
-  pub stmt_unknown : {k : ℕ} (ls : List ℕ) (w : World) → k ≡ word ws 0 → 7 < k → Execs t room left depth ws ls w (F.Trapped malformed) ls w
-  unfolding fexec statement_of
-  stmt_unknown {k} ls w e z = is_kind k (sym e) (rw (get_or-eq_default (statements (block_of depth) ws) S.unknown z))
-
-  module _ {k n : ℕ} {es ls ls' : List ℕ} {w w' : World} {o : Out} (ek : k ≡ word ws 0) (l : k ≤ 7) (a : k ≡ 3 → ⊥) (b : k ≡ 4 → ⊥) (ee : items_of n es ≡ first ws)
-      (x : Scans t room left n es ls w o ls' w') where
-    scanned : val ls w ≡ value_of o ls' w'
-    scanned = rw (← ee) x.same
-
-    pub valued_stop : (us : List ℕ) {fl : D.Flow} → Stops o → fl ≡ halted_of o → Execs t room left depth ws ls w fl us w'
-    valued_stop us z e = is_kind k (sym ek) (valued_kind k l a b ls w ∙ (ap (λ (r : Result ℕ). bind r (rest k)) scanned ∙ (halted_on o ls' us w' (rest k) z ∙ ap (λ (u : D.Flow). flows u us w') (sym e))))
-
-    valued_go : {v : ℕ} {fl : D.Flow} {us : List ℕ} {w'' : World} → o ≡ Goes v → rest k v ls' w' ≡ flows fl us w'' → Execs t room left depth ws ls w fl us w''
-    unfolding bind
-    valued_go y q = is_kind k (sym ek) (valued_kind k l a b ls w ∙ (ap (λ (r : Result ℕ). bind r (rest k)) (scanned ∙ ap (λ (u : Out). value_of u ls' w') y) ∙ q))
-
-    pub valued_store : {v : ℕ} {fl : D.Flow} {us : List ℕ} {w'' : World} → o ≡ Goes v → k ≡ 1 → Stores t room left ws v ls' w' fl us w'' → Execs t room left depth ws ls w fl us w''
-    valued_store y z s = valued_go y (rw (eq-eqb k 1 z) s.same)
-
-    pub valued_choose : {v s : ℕ} {qs : List ℕ} {fl : D.Flow} {us : List ℕ} {w'' : World} → o ≡ Goes v → (k ≡ 1 → ⊥) → k ≡ 2 → block_of depth s qs ≡ branch v (first_block depth ws) (second_block depth ws) →
-        Blocks t room left depth s qs ls' w' fl us w'' → Execs t room left depth ws ls w fl us w''
-    valued_choose {v} y p z e r =
-        valued_go y (rw (ne_eqb k 1 p, eq-eqb k 2 z) (branch_on v (fblock room (invoke_of t room left)) (first_block depth ws) (second_block depth ws) ls' w' ∙
-        (ap (λ (q : S.Block). fblock room (invoke_of t room left) q ls' w') (sym e) ∙ r.same)))
-
-    pub valued_finish : {v : ℕ} {fl : D.Flow} {us : List ℕ} {w'' : World} → o ≡ Goes v → (k ≡ 1 → ⊥) → (k ≡ 2 → ⊥) → Finishes room k ws v ls' w' fl us w'' → Execs t room left depth ws ls w fl us w''
-    valued_finish y p q s = valued_go y (rw (ne_eqb k 1 p, ne_eqb k 2 q) s.same)
+  stmt_unknown {n} r ls w en l g = rw (refused r g) (is_kind n (sym en) (rw (get_or-eq_default (statements (block_of depth) ws) S.unknown l)))
 
   -- the second expression of a store
-  module _ {m : ℕ} {es ls ls' : List ℕ} {w : World} {f : ℕ} {l xs : List ℕ} {o : Out} (ee : items_of m es ≡ second ws) (x : Scans t room left m es ls w o ls' (wd f l xs)) where
-    stored : evaluate (invoke_of t room left) (second ws) ls w ≡ value_of o ls' (wd f l xs)
-    stored = rw (← ee) x.same
+  module _ {m : ℕ} {es ls ls' : List ℕ} {w : World} {f : ℕ} {l xs : List ℕ} (ee : items_of m es ≡ second ws) where
+    pub value_stops : (r : P.Result (Option ℕ) Stop) (us : List ℕ) {i : ℕ} {s : Stop} → IsErrAnd r (λ e. e ≡ s) → Scans t room left m es ls w (Err s) ls' (wd f l xs) → Stores t room left ws i ls w r us (wd f l xs)
+    unfolding bind
+    value_stops r us g x = rw (refused r g) (record { same = rw (← ee, x.same) })
 
-    pub store_stop : (us : List ℕ) {i : ℕ} {fl : D.Flow} → Stops o → fl ≡ halted_of o → Stores t room left ws i ls w fl us (wd f l xs)
-    store_stop us z e = record { same = rw (stored, e) (halted_on o ls' us (wd f l xs) _ z) }
+    module _ {v : ℕ} (x : Scans t room left m es ls w (Ok v) ls' (wd f l xs)) where
+      pub store_there : {i a s : ℕ} {xs' : List ℕ} → a ≡ word ws 1 → s ≡ word ws 2 → i < s → xs' ≡ set xs (a + i) v → Stores t room left ws i ls w (Ok None) ls' (wd f l xs')
+      unfolding bind write
+      store_there {i} {s = s} ea es k r = record { same = rw (← ee, x.same, ← ea, ← es, lt-ltb i s k, r) }
 
-    pub store_there : {i v a s : ℕ} {xs' : List ℕ} → o ≡ Goes v → a ≡ word ws 1 → s ≡ word ws 2 → i < s → xs' ≡ set xs (a + i) v → Stores t room left ws i ls w F.Next ls' (wd f l xs')
-    unfolding bind write
-    store_there {i} {s = s} y ea es k r = record { same = rw (stored, y, ← ea, ← es, lt-ltb i s k, r) }
-
-    pub store_outside : {i v s : ℕ} → o ≡ Goes v → s ≡ word ws 2 → s ≤ i → Stores t room left ws i ls w (F.Trapped index_outside) ls' (wd f l xs)
-    unfolding bind write
-    store_outside {i} {s = s} y es k = record { same = rw (stored, y, ← es, le-ltb i s k) }
+      pub store_outside : {i s : ℕ} → s ≡ word ws 2 → s ≤ i → Stores t room left ws i ls w (Err (Trapped IndexOutside)) ls' (wd f l xs)
+      unfolding bind write
+      store_outside {i} {s = s} es k = record { same = rw (← ee, x.same, ← es, le-ltb i s k) }
 
 -- The rounds of `while`
 
@@ -390,8 +420,8 @@ pub record Rounding (t : List ℕ) (room left depth n : ℕ) (es : List ℕ) (s 
   pub rest : rounds w₀.fuel (evaluate (invoke_of t room left) (items_of n es)) (fblock room (invoke_of t room left) (block_of depth s qs)) ls₀ w₀ ≡
       rounds g (evaluate (invoke_of t room left) (items_of n es)) (fblock room (invoke_of t room left) (block_of depth s qs)) ls w
 
-pub rounding_start : (t : List ℕ) (room left depth n : ℕ) (es : List ℕ) (s : ℕ) (qs ls : List ℕ) (w : World) → Rounding t room left depth n es s qs ls w w.fuel ls w
-rounding_start t room left depth n es s qs ls w = record { rest = refl }
+pub rounding_start : (t : List ℕ) (room left depth n : ℕ) (es : List ℕ) (s : ℕ) (qs ls : List ℕ) (w : World) {g : ℕ} → g ≡ w.fuel → Rounding t room left depth n es s qs ls w g ls w
+rounding_start t room left depth n es s qs ls w e = record { rest = rw e }
 
 module _ (ws : List ℕ) {t : List ℕ} {room left depth n : ℕ} {es : List ℕ} {s : ℕ} {qs ls₀ : List ℕ} {w₀ : World} {g : ℕ} {ls : List ℕ} {w : World}
     (z : word ws 0 ≡ 3) (ee : items_of n es ≡ first ws) (eb : block_of depth s qs ≡ first_block depth ws) (i : Rounding t room left depth n es s qs ls₀ w₀ g ls w) where
@@ -401,36 +431,43 @@ module _ (ws : List ℕ) {t : List ℕ} {room left depth n : ℕ} {es : List ℕ
   abbrev B : Act Flow
   B = fblock room (invoke_of t room left) (block_of depth s qs)
 
-  whole_loop : {fl : D.Flow} {ls' : List ℕ} {w' : World} → rounds g T B ls w ≡ flows fl ls' w' → Execs t room left depth ws ls₀ w₀ fl ls' w'
+  whole_loop : {o : P.Result (Option ℕ) Stop} {ls' : List ℕ} {w' : World} → rounds g T B ls w ≡ flows o ls' w' → Execs t room left depth ws ls₀ w₀ o ls' w'
   unfolding fexec statement_of
   whole_loop r = is_kind t room left depth ws 3 z (rw (← ee, ← eb) (i.rest ∙ r))
 
-  pub loop_dry : (us : List ℕ) → g ≤ 0 → Execs t room left depth ws ls₀ w₀ F.OutOfFuel us w
+  pub loop_dry : (us : List ℕ) → g ≤ 0 → Execs t room left depth ws ls₀ w₀ (Err OutOfFuel) us w
   unfolding rounds
   loop_dry us k = whole_loop (rw (zero_of g k))
 
-  module _ (nz : 0 < g) {o : Out} {ls₁ : List ℕ} {w₁ : World} (x : Scans t room left n es ls w o ls₁ w₁) where
-    one_round : rounds g T B ls w ≡ bind (value_of o ls₁ w₁) (λ v. branch v (λ ls₂ w₂. bind (B ls₂ w₂) (λ fl. followed fl (rounds (g - 1) T B))) (value next))
-    one_round = rounds_step g T B ls w nz ∙ ap (λ (r : Result ℕ). bind r (λ v. branch v (λ ls₂ w₂. bind (B ls₂ w₂) (λ fl. followed fl (rounds (g - 1) T B))) (value next))) x.same
+  module _ (nz : 0 < g) {ls₁ : List ℕ} {w₁ : World} where
+    one_round : {o : P.Result ℕ Stop} → Scans t room left n es ls w o ls₁ w₁ → rounds g T B ls w ≡ bind (value_of o ls₁ w₁) (λ v. branch v (λ ls₂ w₂. bind (B ls₂ w₂) (λ fl. followed fl (rounds (g - 1) T B))) (value next))
+    one_round x = rounds_step g T B ls w nz ∙ ap (λ (r : Result ℕ). bind r (λ v. branch v (λ ls₂ w₂. bind (B ls₂ w₂) (λ fl. followed fl (rounds (g - 1) T B))) (value next))) x.same
 
-    pub loop_stop : (us : List ℕ) {fl : D.Flow} → Stops o → fl ≡ halted_of o → Execs t room left depth ws ls₀ w₀ fl us w₁
-    loop_stop us {fl} y e = whole_loop (one_round ∙ (halted_on o ls₁ us w₁ _ y ∙ ap (λ (u : D.Flow). flows u us w₁) (sym e)))
-
-    pub loop_end : {v : ℕ} → o ≡ Goes v → v ≡ 0 → Execs t room left depth ws ls₀ w₀ F.Next ls₁ w₁
+    pub loop_stops : (r : P.Result (Option ℕ) Stop) (us : List ℕ) {s : Stop} → IsErrAnd r (λ e. e ≡ s) → Scans t room left n es ls w (Err s) ls₁ w₁ → Execs t room left depth ws ls₀ w₀ r us w₁
     unfolding bind
-    loop_end y k = whole_loop (one_round ∙ rw (y, k))
+    loop_stops r us q x = rw (refused r q) (whole_loop (one_round x))
 
-    module _ {v : ℕ} {fl : D.Flow} {ls₂ : List ℕ} {w₂ : World} (y : o ≡ Goes v) (k : v ≡ 0 → ⊥) (r : Blocks t room left depth s qs ls₁ w₁ fl ls₂ w₂) where
-      body_done : rounds g T B ls w ≡ bind (flows fl ls₂ w₂) (λ fl'. followed fl' (rounds (g - 1) T B))
+    module _ {v : ℕ} (x : Scans t room left n es ls w (Ok v) ls₁ w₁) where
+      pub loop_end : v ≡ 0 → Execs t room left depth ws ls₀ w₀ (Ok None) ls₁ w₁
       unfolding bind
-      body_done = one_round ∙ rw (y, pos_of v (v - 1) k refl, r.same)
+      loop_end k = whole_loop (one_round x ∙ rw k)
 
-      pub loop_left : Leaves fl → Execs t room left depth ws ls₀ w₀ fl ls₂ w₂
-      loop_left d = whole_loop (body_done ∙ left_on fl ls₂ w₂ _ d)
+      module _ (k : v ≡ 0 → ⊥) {ls₂ : List ℕ} {w₂ : World} where
+        body_done : {o : P.Result (Option ℕ) Stop} → Blocks t room left depth s qs ls₁ w₁ o ls₂ w₂ → rounds g T B ls w ≡ bind (flows o ls₂ w₂) (λ fl'. followed fl' (rounds (g - 1) T B))
+        unfolding bind
+        body_done r = one_round x ∙ rw (pos_of v (v - 1) k refl, r.same)
 
-      pub loop_again : {g' : ℕ} → fl ≡ F.Next → g' ≡ g - 1 → Rounding t room left depth n es s qs ls₀ w₀ g' ls₂ w₂
-      unfolding bind
-      loop_again d e = record { rest = i.rest ∙ (body_done ∙ rw (d, e)) }
+        pub body_stops : (o : P.Result (Option ℕ) Stop) (us : List ℕ) {e : Stop} → IsErrAnd o (λ d. d ≡ e) → Blocks t room left depth s qs ls₁ w₁ (Err e) ls₂ w₂ → Execs t room left depth ws ls₀ w₀ o us w₂
+        unfolding bind
+        body_stops o us q r = rw (refused o q) (whole_loop (body_done r))
+
+        pub body_returns : {o : Option ℕ} {u : ℕ} → Blocks t room left depth s qs ls₁ w₁ (Ok o) ls₂ w₂ → o ≡ Some u → Execs t room left depth ws ls₀ w₀ (Ok (Some u)) ls₂ w₂
+        unfolding bind
+        body_returns r y = whole_loop (body_done r ∙ rw y)
+
+        pub loop_again : {o : Option ℕ} {g' : ℕ} → Blocks t room left depth s qs ls₁ w₁ (Ok o) ls₂ w₂ → o ≡ None → g' ≡ g - 1 → Rounding t room left depth n es s qs ls₀ w₀ g' ls₂ w₂
+        unfolding bind
+        loop_again r y e = record { rest = i.rest ∙ (body_done r ∙ rw (y, e)) }
 
 -- Blocks
 
@@ -452,42 +489,46 @@ open_block (suc depth) n ws z = ap (λ (j : ℕ). sequence_of (stmt_at j) n ws) 
 pub record Blocking (t : List ℕ) (room left depth n : ℕ) (ws₀ ls₀ : List ℕ) (w₀ : World) (m : ℕ) (ws ls : List ℕ) (w : World) : Type 0 where
   pub rest : fblock room (invoke_of t room left) (block_of depth n ws₀) ls₀ w₀ ≡ fblock room (invoke_of t room left) (sequence_of (stmt_at (depth - 1)) m ws) ls w
 
-pub block_none : (t : List ℕ) (room left depth n : ℕ) (ws ls : List ℕ) (w : World) → depth ≡ 0 → Blocks t room left depth n ws ls w F.Next ls w
+pub block_none : (t : List ℕ) (room left depth n : ℕ) (ws ls : List ℕ) (w : World) → depth ≡ 0 → Blocks t room left depth n ws ls w (Ok None) ls w
 unfolding block_of fblock
 block_none t room left depth n ws ls w z = record { same = rw z }
 
-pub blocking_start : (t : List ℕ) (room left depth n : ℕ) (ws ls : List ℕ) (w : World) → (depth ≡ 0 → ⊥) → Blocking t room left depth n ws ls w n ws ls w
-blocking_start t room left depth n ws ls w z = record { rest = ap (λ (b : S.Block). fblock room (invoke_of t room left) b ls w) (open_block depth n ws z) }
+pub blocking_start : (t : List ℕ) (room left depth n : ℕ) (ws ls : List ℕ) (w : World) {m : ℕ} → (depth ≡ 0 → ⊥) → m ≡ n → Blocking t room left depth n ws ls w m ws ls w
+blocking_start t room left depth n ws ls w z e = record { rest = rw e (ap (λ (b : S.Block). fblock room (invoke_of t room left) b ls w) (open_block depth n ws z)) }
 
 module _ {t : List ℕ} {room left depth n : ℕ} {ws₀ ls₀ : List ℕ} {w₀ : World} {m : ℕ} {ws ls : List ℕ} {f : ℕ} {l xs : List ℕ} (i : Blocking t room left depth n ws₀ ls₀ w₀ m ws ls (wd f l xs)) where
   abbrev after : Flow → Act Flow
   after fl = followed fl (fblock room (invoke_of t room left) (sequence_of (stmt_at (depth - 1)) (m - 1) (drop (header_words + word ws 7) ws)))
 
-  pub block_end : m ≤ 0 → Blocks t room left depth n ws₀ ls₀ w₀ F.Next ls (wd f l xs)
+  pub block_end : m ≤ 0 → Blocks t room left depth n ws₀ ls₀ w₀ (Ok None) ls (wd f l xs)
   unfolding sequence_of fblock
   block_end z = record { same = i.rest ∙ rw (zero_of m z) }
 
-  pub block_dry : (us : List ℕ) → 0 < m → f ≡ 0 → Blocks t room left depth n ws₀ ls₀ w₀ F.OutOfFuel us (wd f l xs)
+  pub block_dry : (r : P.Result (Option ℕ) Stop) (us : List ℕ) {s : Stop} {f' : ℕ} {l' : List ℕ} → 0 < m → IsErrAnd r (λ e. e ≡ s) → s ≡ OutOfFuel → f < 1 → f' ≡ 0 → l' ≡ l → Blocks t room left depth n ws₀ ls₀ w₀ r us (wd f' l' xs)
   unfolding bind
-  block_dry us z k = record { same = i.rest ∙ (sequence_step m (stmt_at (depth - 1)) ws room (invoke_of t room left) ls (wd f l xs) z ∙ rw k) }
+  block_dry r us z g k q d e = rw (refused r g, k, d, e) (record { same = i.rest ∙ (sequence_step m (stmt_at (depth - 1)) ws room (invoke_of t room left) ls (wd f l xs) z ∙ rw (zero_of f (omega arith))) })
 
-  module _ (z : 0 < m) (nz : f ≡ 0 → ⊥) {fl : D.Flow} {ls' : List ℕ} {w' : World} (x : Execs t room left (depth - 1) ws ls (wd (f - 1) l xs) fl ls' w') where
-    stmt_done : fblock room (invoke_of t room left) (sequence_of (stmt_at (depth - 1)) m ws) ls (wd f l xs) ≡ bind (flows fl ls' w') after
+  module _ {f' : ℕ} {l' : List ℕ} (z : 0 < m) (q : 1 ≤ f) (d : f' ≡ f - 1) (e : l' ≡ l) {ls' : List ℕ} {w' : World} where
+    stmt_done : {o : P.Result (Option ℕ) Stop} → Execs t room left (depth - 1) ws ls (wd f' l' xs) o ls' w' → fblock room (invoke_of t room left) (sequence_of (stmt_at (depth - 1)) m ws) ls (wd f l xs) ≡ bind (flows o ls' w') after
     unfolding bind
-    stmt_done =
+    stmt_done x =
         sequence_step m (stmt_at (depth - 1)) ws room (invoke_of t room left) ls (wd f l xs) z ∙
-        (ap (λ (j : ℕ). bind (begin_on j ls (wd j l xs)) (λ _ ls₁ w₁. bind (fexec room (invoke_of t room left) (stmt_at (depth - 1) ws) ls₁ w₁) after)) (pos_of f (f - 1) nz refl) ∙
-        ap (λ (r : Result Flow). bind r after) x.same)
+        (ap (λ (j : ℕ). bind (begin_on j ls (wd j l xs)) (λ _ ls₁ w₁. bind (fexec room (invoke_of t room left) (stmt_at (depth - 1) ws) ls₁ w₁) after)) (pos_of f f' (λ (y : f ≡ 0). omega arith) d) ∙
+        (ap (λ (us : List ℕ). bind (fexec room (invoke_of t room left) (stmt_at (depth - 1) ws) ls (wd f' us xs)) after) (sym e) ∙
+        ap (λ (r : Result Flow). bind r after) x.same))
 
-    pub block_left : Leaves fl → Blocks t room left depth n ws₀ ls₀ w₀ fl ls' w'
-    block_left y = record { same = i.rest ∙ (stmt_done ∙ left_on fl ls' w' _ y) }
-
-    pub block_next : {m' : ℕ} {ws' : List ℕ} → fl ≡ F.Next → m' ≡ m - 1 → ws' ≡ drop (header_words + word ws 7) ws → Blocking t room left depth n ws₀ ls₀ w₀ m' ws' ls' w'
+    pub block_stops : (r : P.Result (Option ℕ) Stop) (us : List ℕ) {s : Stop} → IsErrAnd r (λ e. e ≡ s) → Execs t room left (depth - 1) ws ls (wd f' l' xs) (Err s) ls' w' → Blocks t room left depth n ws₀ ls₀ w₀ r us w'
     unfolding bind
-    block_next y em e = record { rest = i.rest ∙ (stmt_done ∙ rw (y, em, e)) }
+    block_stops r us g x = rw (refused r g) (record { same = i.rest ∙ stmt_done x })
 
--- lengths of what is lent
-pub record Lens (work₀ work arrays₀ arrays log₀ log : List ℕ) : Type 0 where
-  pub work_len : length work ≡ length work₀
-  pub arrays_len : length arrays ≡ length arrays₀
-  pub log_len : length log ≡ length log₀
+    pub block_returns : {r : Option ℕ} {v : ℕ} → Execs t room left (depth - 1) ws ls (wd f' l' xs) (Ok r) ls' w' → r ≡ Some v → Blocks t room left depth n ws₀ ls₀ w₀ (Ok (Some v)) ls' w'
+    unfolding bind
+    block_returns x y = record { same = i.rest ∙ (stmt_done x ∙ rw y) }
+
+    pub block_next : {r : Option ℕ} {m' : ℕ} {ws' : List ℕ} → Execs t room left (depth - 1) ws ls (wd f' l' xs) (Ok r) ls' w' → r ≡ None → m' ≡ m - 1 → ws' ≡ drop (header_words + word ws 7) ws → Blocking t room left depth n ws₀ ls₀ w₀ m' ws' ls' w'
+    unfolding bind
+    block_next x z em y = record { rest = i.rest ∙ (stmt_done x ∙ rw (z, em, y)) }
+
+-- the room of an activation is that of its locals and operands
+pub frame : {c h left room : ℕ} {work log : List ℕ} → Roomy c left room work log → h ≤ most_operands → Frame c h work
+frame r l = record { locals = r.locals; operands = l; room = omega (arith, r.frames) }

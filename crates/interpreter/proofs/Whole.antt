@@ -13,18 +13,20 @@ use Rattle.language.specs.Meaning.{World, Run, ended, most_activations, run_of}
 use Rattle.flat.specs.Words.{word, flat_run, words_of}
 use Rattle.flat.specs.Fits.{Fits}
 use Rattle.flat.proofs.Run.{flat_run_before}
-use Rattle.interpreter.specs.declared.Out.{Out}
-use Rattle.interpreter.specs.declared.Out.TheVariants.{Goes, Trapped, OutOfFuel}
+use Rattle.std.specs.Prelude.{Ok, Err}
+use Rattle.std.specs.Prelude as P
+use Rattle.interpreter.specs.declared.Stop.{Stop}
+use Rattle.interpreter.specs.declared.Stop.TheVariants.{Trapped, OutOfFuel}
 use Rattle.interpreter.specs.declared.Outcome.{Outcome}
 use Rattle.interpreter.specs.Post.{world, value_of, Calls, Grows, outcome_of, ended_of, Runs}
 
-ended_as : (out : Out) (ls : List ℕ) (w : World) → ended (value_of out ls w) ≡ record { outcome = outcome_of (ended_of out); world = w }
-ended_as (Goes v) ls w = refl
-ended_as (Trapped n) ls w = refl
-ended_as OutOfFuel ls w = refl
+ended_as : (out : P.Result ℕ Stop) (ls : List ℕ) (w : World) → ended (value_of out ls w) ≡ record { outcome = outcome_of (ended_of out); world = w }
+ended_as (Ok v) ls w = refl
+ended_as (Err (Trapped t)) ls w = refl
+ended_as (Err OutOfFuel) ls w = refl
 
 -- the call of main is the run
-pub ran : (t : List ℕ) (room fuel : ℕ) (arrays log : List ℕ) {main f n : ℕ} {out : Out} {o : Outcome} {arrays' log' : List ℕ} → main ≡ word t 1 →
+pub ran : (t : List ℕ) (room fuel : ℕ) (arrays log : List ℕ) {main f n : ℕ} {out : P.Result ℕ Stop} {o : Outcome} {arrays' log' : List ℕ} → main ≡ word t 1 →
     Calls t room most_activations main [] (world fuel 0 log arrays) out (world f n log' arrays') → o ≡ ended_of out → Grows room 0 log n log' → Runs t room fuel arrays log o f n arrays' log'
 unfolding flat_run
 ran t room fuel arrays log {main} {f} {n} {out} {o} {arrays'} {log'} e x g y =

@@ -2,12 +2,13 @@
 // the laws of `flat` that of the program they are the words of (proofs/Whole.antt).
 #![tactic(auto)]
 
-ghost use Rattle.std.specs.Prelude.{◌≡◌, ◌≤◌, length};
-ghost use Rattle.interpreter.specs.Post.{working_room, ended_of, Runs};
+ghost use Rattle.std.specs.Prelude.{◌≤◌, length};
+ghost use Rattle.interpreter.specs.Post.{working_room, IsOutcome, malformed_of, Runs};
 
+use crate::parts::Code;
 use crate::walk::call;
-use crate::words::field;
-use flat::program;
+use flat::trap::Trap;
+use flat::{UnknownNumber, program};
 
 pub mod words; // words in slices
 pub mod parts; // what stands at a place in the words
@@ -20,29 +21,40 @@ pub mod walk; // expressions, statements, blocks and calls
 // The words of working room that so many activations take: 64 locals and 324 operands each.
 pub const WORKING_ROOM: usize = 24832;
 
-// How far an expression or a call came: it goes on with a value, or it has stopped.
-#[derive(Clone, Copy)]
-pub enum Out {
-    Goes(u32),
-    Trapped(u32),
+// Why a run stops before its end.
+#[derive(Clone, Copy, Debug, PartialEq, Eq)]
+pub enum Stop {
+    Trapped(Trap),
     OutOfFuel,
 }
 
-// Where a statement leads: on to the next one, out of the function, or nowhere.
-#[derive(Clone, Copy)]
-pub enum Flow {
-    Next,
-    Returned(u32),
-    Trapped(u32),
-    OutOfFuel,
+impl From<UnknownNumber> for Stop {
+    ghost from_gives = { malformed_of };
+
+    fn from(_number: UnknownNumber) -> Stop {
+        Stop::Trapped(Trap::Malformed)
+    }
 }
 
-// "Outcomes: finished, trapped with a number, out of fuel".
-#[derive(Clone, Copy)]
+// "Outcomes: finished, trapped with a number, out of fuel". An enum of its own: the theorems above speak of these three (`outcome_of`).
+#[derive(Clone, Copy, Debug, PartialEq, Eq)]
 pub enum Outcome {
     Finished,
     Trapped(u32),
     OutOfFuel,
+}
+
+// By how the call of main ended.
+impl From<Result<u32, Stop>> for Outcome {
+    ghost from_gives = { IsOutcome };
+
+    fn from(called: Result<u32, Stop>) -> Outcome {
+        match called {
+            Ok(_) => Outcome::Finished,
+            Err(Stop::Trapped(trap)) => Outcome::Trapped(trap as u32),
+            Err(Stop::OutOfFuel) => Outcome::OutOfFuel,
+        }
+    }
 }
 
 // n items or statements, whose words begin at p.
@@ -52,9 +64,10 @@ pub struct Span {
     pub n: u32,
 }
 
-// What bounds an activation: how many more may be made, how many locals it has, and how much of the log may be used.
+// What an activation runs, and what bounds it: how many more may be made, how many locals it has, and how much of the log may be used.
 #[derive(Clone, Copy)]
-pub struct Bounds {
+pub struct Activation<'a> {
+    pub code: Code<'a>,
     pub left: u32,
     pub locals: usize,
     pub room: usize,
@@ -67,37 +80,12 @@ pub struct Meter {
     pub logged: usize,
 }
 
-// How far an expression or a call came, and the meter then.
-#[derive(Clone, Copy)]
-pub struct Value {
-    pub out: Out,
-    pub meter: Meter,
-}
-
-// Where a statement or a block leads, and the meter then.
-#[derive(Clone, Copy)]
-pub struct Done {
-    pub flow: Flow,
-    pub meter: Meter,
-}
-
 // A run's outcome, the fuel that is left and how many words are logged.
-#[derive(Clone, Copy)]
+#[derive(Clone, Copy, Debug, PartialEq, Eq)]
 pub struct Ran {
     pub outcome: Outcome,
     pub fuel: u64,
     pub logged: usize,
-}
-
-// The outcome of a run, by how far the call of main came.
-pub fn ended(out: Out) -> Outcome
-    ensures { result ≡ ended_of out }
-{
-    match out {
-        Out::Goes(_) => Outcome::Finished,
-        Out::Trapped(n) => Outcome::Trapped(n),
-        Out::OutOfFuel => Outcome::OutOfFuel,
-    }
 }
 
 // "A run takes the initial contents of all arrays, in order of declaration, and a fuel figure; it calls main."
@@ -112,20 +100,20 @@ pub fn run(
     requires { (room ≤ length log.old) × (working_room ≤ length work.old) }
     ensures { Runs words.now room fuel arrays.old log.old result.outcome result.fuel result.logged arrays.new log.new }
 {
-    let main = field(words, 0, program::MAIN);
+    let code = Code { words };
+    let main = code.field(0, program::MAIN);
     let left = program::MOST_ACTIVATIONS;
-    let bounds = Bounds {
+    let caller = Activation {
+        code,
         left,
         locals: 0,
         room,
     };
-    let meter = Meter { fuel, logged: 0 };
-    let r = call(words, bounds, main, 0, work, arrays, log, meter);
-    let out = r.out;
-    let outcome = ended(out);
+    let mut meter = Meter { fuel, logged: 0 };
+    let called = call(caller, main, 0, work, arrays, log, &mut meter);
     Ran {
-        outcome,
-        fuel: r.meter.fuel,
-        logged: r.meter.logged,
+        outcome: Outcome::from(called),
+        fuel: meter.fuel,
+        logged: meter.logged,
     }
 }

@@ -3,23 +3,10 @@ ghost use Rattle.std.specs.Prelude.{◌≡◌, ◌-◌, ◌≤◌, ◌+◌, leng
 ghost use Rattle.flat.specs.Items.{top as top_of};
 ghost use Rattle.interpreter.specs.Post.{Frame, operands_at, Pushes};
 
-use crate::Out;
-use crate::words::word;
-use flat::{item, trap};
-
-// What a push leaves: how far it came, and how many operands there are.
-#[derive(Clone, Copy)]
-pub struct Pushed {
-    pub out: Out,
-    pub h: usize,
-}
-
-// n less, and never below 0.
-pub fn below(h: usize, n: usize) -> usize
-    ensures { result ≡ h - n }
-{
-    if n < h { h - n } else { 0 }
-}
+use crate::Stop;
+use flat::item;
+use flat::trap::Trap;
+use word::lists::word;
 
 // Local x; one that isn't there is 0.
 pub fn local(work: &[u32], c: usize, x: u32) -> u32
@@ -40,20 +27,14 @@ pub fn top(work: &[u32], c: usize, h: usize) -> u32
     if h == 0 { 0 } else { word(work, c + (h - 1)) }
 }
 
-// One more operand.
-pub fn push(work: &mut [u32], c: usize, h: usize, v: u32) -> Pushed
+// One more operand: how many there are then.
+pub fn push(work: &mut [u32], c: usize, h: usize, v: u32) -> Result<usize, Stop>
     requires { Frame c h work.old }
-    ensures { Pushes work.old c h v result.out result.h work.new }
+    ensures { Pushes work.old c h v result work.new }
 {
     if h < item::MOST_OPERANDS {
         work[c + h] = v;
-        return Pushed {
-            out: Out::Goes(0),
-            h: h + 1,
-        };
+        return Ok(h + 1);
     }
-    Pushed {
-        out: Out::Trapped(trap::MALFORMED),
-        h,
-    }
+    Err(Stop::Trapped(Trap::Malformed))
 }

@@ -2,47 +2,46 @@
 ghost use Rattle.std.specs.Prelude.{◌≡◌};
 ghost use Rattle.interpreter.specs.Post.{Strictly, Unarily};
 
-use crate::Out;
-use flat::{operator, trap};
+use crate::Stop;
+use flat::operator::{Strict, Unary};
+use flat::trap::Trap;
 use word::arithmetic::{add, mul, neg, sub};
 use word::division::{quotient_signed, remainder_signed};
 use word::order::{bit_of, less_signed};
 
 // With two sides.
-pub fn strict(op: u32, a: u32, b: u32) -> Out
+pub fn strict(op: u32, a: u32, b: u32) -> Result<u32, Stop>
     ensures { Strictly op a b result }
 {
-    match op {
-        operator::EQ => Out::Goes(bit_of(a == b)),
-        operator::NE => Out::Goes(bit_of(a != b)),
-        operator::LT => Out::Goes(bit_of(less_signed(a, b))),
-        operator::LE => Out::Goes(bit_of(!less_signed(b, a))),
-        operator::GT => Out::Goes(bit_of(less_signed(b, a))),
-        operator::GE => Out::Goes(bit_of(!less_signed(a, b))),
-        operator::ADD => Out::Goes(add(a, b)),
-        operator::SUB => Out::Goes(sub(a, b)),
-        operator::MUL => Out::Goes(mul(a, b)),
-        operator::DIV => if b == 0 {
-            Out::Trapped(trap::DIVISION_BY_ZERO)
+    match Strict::try_from(op)? {
+        Strict::Eq => Ok(bit_of(a == b)),
+        Strict::Ne => Ok(bit_of(a != b)),
+        Strict::Lt => Ok(bit_of(less_signed(a, b))),
+        Strict::Le => Ok(bit_of(!less_signed(b, a))),
+        Strict::Gt => Ok(bit_of(less_signed(b, a))),
+        Strict::Ge => Ok(bit_of(!less_signed(a, b))),
+        Strict::Add => Ok(add(a, b)),
+        Strict::Sub => Ok(sub(a, b)),
+        Strict::Mul => Ok(mul(a, b)),
+        Strict::Div => if b == 0 {
+            Err(Stop::Trapped(Trap::DivisionByZero))
         } else {
-            Out::Goes(quotient_signed(a, b))
+            Ok(quotient_signed(a, b))
         },
-        operator::REM => if b == 0 {
-            Out::Trapped(trap::DIVISION_BY_ZERO)
+        Strict::Rem => if b == 0 {
+            Err(Stop::Trapped(Trap::DivisionByZero))
         } else {
-            Out::Goes(remainder_signed(a, b))
+            Ok(remainder_signed(a, b))
         },
-        _ => Out::Trapped(trap::MALFORMED),
     }
 }
 
 // With one side.
-pub fn unary(op: u32, a: u32) -> Out
+pub fn unary(op: u32, a: u32) -> Result<u32, Stop>
     ensures { Unarily op a result }
 {
-    match op {
-        operator::NEGATE => Out::Goes(neg(a)),
-        operator::NOT => Out::Goes(bit_of(a == 0)),
-        _ => Out::Trapped(trap::MALFORMED),
+    match Unary::try_from(op)? {
+        Unary::Negate => Ok(neg(a)),
+        Unary::Not => Ok(bit_of(a == 0)),
     }
 }

@@ -1,5 +1,5 @@
 -- Document 03 §3: which word is which instruction. (What each does: Execute.antt.)
-use Rattle.std.specs.Prelude.{ℕ, ◌+◌, ◌*◌, ◌/◌, ◌%◌, ◌^◌, ◌<◌, ◌≡◌, List, [], ◌∷◌, eqb}
+use Rattle.std.specs.Prelude.{ℕ, ◌+◌, ◌*◌, ◌/◌, ◌%◌, ◌^◌, ◌<◌, ◌≡◌, List, [], ◌∷◌, eqb, Result, MatchResult}
 use Rattle.std.proofs.Math.Option.{Option, none, some}
 use Rattle.word.specs.Choice.{pick}
 use Rattle.word.specs.Word.{sign_extend}
@@ -83,6 +83,10 @@ stores = Byte ∷ Half ∷ Word ∷ []
 abbrev pub find : {A : Type 0} → (A → ℕ) → List A → ℕ → Option A
 find number [] k = none
 find number (a ∷ rest) k = pick (eqb k (number a)) (some a) (find number rest k)
+
+-- a search in the code that gives the entry which the list has, and fails where it has none
+abbrev pub Finds : {A E : Type 0} → Option A → Result A E → Type 0
+Finds x r = MatchResult r (λ a. x ≡ some a) (λ e. x ≡ none)
 
 -- the instruction of the entry that was found, else another
 abbrev pub found : {A : Type 0} → Option A → (A → Instr) → Instr → Instr

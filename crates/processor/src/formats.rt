@@ -1,5 +1,7 @@
 // The word of each format (document 03 §2), of what stands in its columns from the left; the numbers of the second column of document 03 §3's
 // table; and the word of an instruction by these.
+#![tactic(auto, unfolding(crate::specs::Formats::r_word, crate::specs::Formats::i_word, crate::specs::Formats::s_word, crate::specs::Formats::b_word, crate::specs::Formats::u_word, crate::specs::Formats::j_word))]
+
 ghost use Rattle.std.specs.Prelude.{◌≡◌};
 ghost use Rattle.processor.specs.Formats.{r_word, i_word, s_word, b_word, u_word, j_word};
 ghost use Rattle.processor.specs.Instructions.{alu_key, cond_key, width_key, encode_of};
@@ -10,53 +12,21 @@ use crate::{Alu, Cond, Instr, Width};
 pub fn alu_key(o: Alu) -> u32
     ensures { result ≡ alu_key o }
 {
-    match o {
-        Alu::Add => 0,
-        Alu::Sub => 256,
-        Alu::Sll => 1,
-        Alu::Slt => 2,
-        Alu::Sltu => 3,
-        Alu::Xor => 4,
-        Alu::Srl => 5,
-        Alu::Sra => 261,
-        Alu::Or => 6,
-        Alu::And => 7,
-        Alu::Mul => 8,
-        Alu::Mulh => 9,
-        Alu::Mulhsu => 10,
-        Alu::Mulhu => 11,
-        Alu::Div => 12,
-        Alu::Divu => 13,
-        Alu::Rem => 14,
-        Alu::Remu => 15,
-    }
+    o as u32
 }
 
 // funct3 of a branch.
 pub fn cond_key(c: Cond) -> u32
     ensures { result ≡ cond_key c }
 {
-    match c {
-        Cond::Eq => 0,
-        Cond::Ne => 1,
-        Cond::Lt => 4,
-        Cond::Ge => 5,
-        Cond::Ltu => 6,
-        Cond::Geu => 7,
-    }
+    c as u32
 }
 
 // funct3 of a load or a store.
 pub fn width_key(s: Width) -> u32
     ensures { result ≡ width_key s }
 {
-    match s {
-        Width::Byte => 0,
-        Width::Half => 1,
-        Width::Word => 2,
-        Width::ByteU => 4,
-        Width::HalfU => 5,
-    }
+    s as u32
 }
 
 // R: every column by itself.
@@ -117,6 +87,7 @@ pub fn j_word(imm: u32, d: u32, o: u32) -> u32
 }
 
 // The word of an instruction, in its row's format.
+#[tactic(auto, unfolding(crate::specs::Instructions::encode_of))]
 pub fn word_of(i: Instr) -> u32
     ensures { result ≡ encode_of i }
 {

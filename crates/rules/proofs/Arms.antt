@@ -4,31 +4,19 @@ use mathlib.Core.Bool.{Bool, true, false}
 use mathlib.Core.List.{List, [], ◌∷◌}
 use mathlib.Core.Option.{Option}
 use Prim.Native.Nat.{ℕ, zero, suc, ◌+◌}
-use lib.Dec.{eqb}
 use lib.ListN.{length, drop}
-use borrow.Author.Tests.{ne_eqb}
 use Rattle.language.specs.Tree.{Place, Ty, int, bool}
 use Rattle.language.specs.Tree as T
 use Rattle.language.specs.Rules.{Global, stmt}
 use Rattle.grammar.specs.Flat as G
 use Rattle.rules.specs.Tables.{word, part}
 use Rattle.rules.specs.Named.{Stands, NamedExpr, NamedStmt}
-use Rattle.rules.specs.declared.Step.{Step}
+use Rattle.std.specs.Prelude.{Result}
+use Rattle.rules.specs.declared.Broken.{Broken}
+use Rattle.rules.specs.declared.Scope as S
 use Rattle.rules.specs.Post.{scope_of, StmtCase, States}
 use Rattle.rules.specs.Statements.{Heads, declared_type, StatesTwo, Runs, Statement, holds_blocks}
 use Rattle.rules.proofs.Heading.{further}
-
-pub holds_first : (k : ℕ) → k ≡ 2 → true ≡ holds_blocks k
-unfolding holds_blocks
-holds_first k e = rw e refl
-
-pub holds_second : (k : ℕ) → (k ≡ 2 → ⊥) → k ≡ 3 → true ≡ holds_blocks k
-unfolding holds_blocks
-holds_second k d e = rw e refl
-
-pub holds_last : (k : ℕ) {b : Bool} → (k ≡ 2 → ⊥) → (k ≡ 3 → ⊥) → b ≡ eqb k 8 → b ≡ holds_blocks k
-unfolding holds_blocks
-holds_last k d e h = rw (ne_eqb k 2 d, ne_eqb k 3 e) h
 
 abbrev pub Truth : Bool → Type 0
 Truth true = Unit {0}
@@ -37,7 +25,7 @@ Truth false = ⊥
 no_blocks : {k : ℕ} (i : ℕ) → holds_blocks i ≡ true → k ≡ i → holds_blocks k ≡ false → ⊥
 no_blocks i t e h = subst Truth (sym t ∙ (ap holds_blocks (sym e) ∙ h)) tt
 
-module _ (text : List ℕ) (gs : List Global) (locals : List ℕ) (l count : ℕ) (result : Option Ty) (tree : List ℕ) (p q : ℕ) (core : List ℕ) (r : Step) (locals' core' : List ℕ) {k at size n m s t rest : ℕ} (hd : Heads (drop p tree) k at size n m s t rest) where
+module _ (text : List ℕ) (gs : List Global) (locals : List ℕ) (l count : ℕ) (result : Option Ty) (tree : List ℕ) (p q : ℕ) (core : List ℕ) (r : Result S.Scope Broken) (locals' core' : List ℕ) {k at size n m s t rest : ℕ} (hd : Heads (drop p tree) k at size n m s t rest) where
   abbrev Said : T.Stmt → Type 0
   Said st = StmtCase gs text (stmt gs result st (scope_of gs text locals l count)) q core r locals' core'
 
@@ -98,19 +86,5 @@ module _ (text : List ℕ) (gs : List Global) (locals : List ℕ) (l count : ℕ
   pub of_kind : (i : ℕ) → k ≡ i → Arm i → holds_blocks k ≡ false → Statement text gs locals l count result (drop p tree) q core r locals' core'
   of_kind i e x b = record { by = arm b (subst Arm (sym e) x) }
 
-  pub of_none : (k ≡ 0 → ⊥) → (k ≡ 1 → ⊥) → (k ≡ 4 → ⊥) → (k ≡ 5 → ⊥) → (k ≡ 6 → ⊥) → (k ≡ 7 → ⊥) → (k ≡ 9 → ⊥) → (k ≡ 10 → ⊥) → holds_blocks k ≡ false → Statement text gs locals l count result (drop p tree) q core r locals' core'
-  unfolding G.stmt_words holds_blocks G.declare_kind
-  of_none h₀ h₁ h₄ h₅ h₆ h₇ h₉ h₁₀ b = record { by = go }
-    where
-      go : (st : T.Stmt) (more : List ℕ) → drop p tree ≡ G.stmt_words st more → NamedStmt text st → Said st
-      go (T.declare at' y Ty.int e) more ew nm = absurd (h₉ (is_kind ew))
-      go (T.declare at' y Ty.bool e) more ew nm = absurd (h₁₀ (is_kind ew))
-      go (T.assign at' y e) more ew nm = absurd (h₀ (is_kind ew))
-      go (T.store at' y i e) more ew nm = absurd (h₁ (is_kind ew))
-      go (T.when at' e a) more ew nm = absurd (no_blocks 8 refl (is_kind ew) b)
-      go (T.choose at' e a c) more ew nm = absurd (no_blocks 2 refl (is_kind ew) b)
-      go (T.while at' e a) more ew nm = absurd (no_blocks 3 refl (is_kind ew) b)
-      go (T.leave at') more ew nm = absurd (h₄ (is_kind ew))
-      go (T.give at' e) more ew nm = absurd (h₅ (is_kind ew))
-      go (T.emit at' e) more ew nm = absurd (h₆ (is_kind ew))
-      go (T.run at' y xs) more ew nm = absurd (h₇ (is_kind ew))
+  pub of_blocks : holds_blocks k ≡ true → holds_blocks k ≡ false → Statement text gs locals l count result (drop p tree) q core r locals' core'
+  of_blocks t f = absurd (subst Truth (sym t ∙ f) tt)

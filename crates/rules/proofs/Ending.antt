@@ -13,10 +13,11 @@ use Rattle.language.specs.Tree as T
 use Rattle.language.specs.Tree.{Ty}
 use Rattle.language.specs.Rules.{is_return, ends_in_return}
 use Rattle.grammar.specs.Flat as G
-use Rattle.rules.specs.Post.{most_places, most_words}
+use Rattle.rules.specs.Bounds.{most_places, most_words}
 use Rattle.rules.specs.Tables.{word}
 use Rattle.rules.specs.Statements.{Heads, Returns, Ends, holds_blocks}
 use Rattle.rules.proofs.Walking.{Left, Next, next, ended, there, onward}
+use Rattle.rules.proofs.Sorts.{kind_few}
 use Rattle.rules.proofs.Nesting.{Located, located, too_few}
 
 -- Statements, by their kind
@@ -141,6 +142,9 @@ module _ {tree : List ℕ} {p n i at : ℕ} {ends : Bool} (c : Ending tree p n i
 
     pub ending_short : {r : Bool} → length tree < at + 8 → Ends n (drop p tree) r
     ending_short e = record { by = λ b more ew en. absurd (omega (arith, e, there (stands b more ew en))) }
+
+    pub ending_odd : {r : Bool} → 10 < word (drop at tree) 0 → Ends n (drop p tree) r
+    ending_odd e = record { by = λ b more ew en. let a = stands b more ew en in absurd (omega (arith, e, kind_few a.first (G.block_words a.rest more), ap (λ (w : List ℕ). word w 0) a.words)) }
 
     module _ {kind place size items more_items statements more_statements rest : ℕ} (hd : Heads (drop at tree) kind place size items more_items statements more_statements rest) where
       pub ending_cut : {r : Bool} → length tree < at + (8 + rest) → Ends n (drop p tree) r

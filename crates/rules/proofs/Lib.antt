@@ -1,3 +1,5 @@
+pub mod Valued
+pub mod Sorts
 pub mod Looking
 pub mod Kept
 pub mod Sizes

@@ -1,19 +1,24 @@
 -- Names and types compared one by one, and entries looked at from the last down.
 use mathlib.Core.Path.{◌≡◌, refl, sym, ap, ◌∙◌}
 use mathlib.Core.List.{List}
-use mathlib.Core.Bool.{Bool, true, false, not}
-use mathlib.Core.Option.{some}
-use Prim.Native.Nat.{ℕ, zero, suc, ◌+◌, ◌-◌, ◌*◌, ◌≤◌, ◌<◌}
+use mathlib.Core.Bool.{Bool, true, false}
+use mathlib.Core.Option.{none, some}
+use Rattle.std.specs.Prelude.{Some, None}
+use Prim.Native.Nat.{ℕ, zero, suc, ◌+◌, ◌-◌, ◌*◌, ◌≤◌, ◌<◌, ◌^◌}
 use native.Mathlib.Omega.{arith}
 use lib.ListN.{get_or}
 use lib.Dec.{eqb}
 use borrow.Author.Tests.{eq-eqb, ne_eqb}
 use Rattle.word.specs.Choice.{pick, both}
-use Rattle.language.specs.Tree.{Name, int, bool}
+use Rattle.language.specs.Tree.{Name}
 use Rattle.language.specs.Rules.{same_ty, local_of, global_of}
 use Rattle.language.specs.Tokens.{same}
-use Rattle.rules.specs.Tables.{part, type_of, types_from, same_types, local_at, locals_in, global_at, globals_in}
-use Rattle.rules.specs.Post.{local_entry, FindsLocal, global_entry, FindsGlobal}
+use Rattle.rules.specs.Tables.{part, type_of, types_from, same_types, local_at, locals_in, global_from, global_at, globals_in}
+use Rattle.rules.specs.declared.names.Name as N'
+use Rattle.rules.specs.declared.names.Local as N
+use Rattle.rules.specs.declared.program.Global as P
+use Rattle.rules.specs.declared.program.Program.{Program}
+use Rattle.rules.specs.Values.{known, FindsLocal, globals_of, FindsGlobal, FindsBy}
 
 -- Names
 
@@ -75,84 +80,84 @@ pub record Finding (text ws : List ℕ) (count : ℕ) (x : Name) (i : ℕ) : Typ
   pub rest : local_of (locals_in text ws count) x ≡ local_of (locals_in text ws i) x
   pub among : i ≤ count
 
-local_step : (text ws : List ℕ) (i : ℕ) (x : Name) → 0 < i → local_of (locals_in text ws i) x ≡ pick (same (local_at text ws (i - 1)).name x) (local_entry text ws i) (local_of (locals_in text ws (i - 1)) x)
-unfolding local_of locals_in local_entry
+local_step : (text ws : List ℕ) (i : ℕ) (x : Name) → 0 < i → local_of (locals_in text ws i) x ≡ pick (same (local_at text ws (i - 1)).name x) (some (local_at text ws (i - 1))) (local_of (locals_in text ws (i - 1)) x)
+unfolding local_of locals_in
 local_step text ws zero x h = absurd (omega arith)
-local_step text ws (suc i) x h = ap (λ (j : ℕ). pick (same (local_at text ws j).name x) (some (local_at text ws i)) (local_of (locals_in text ws j) x)) {x = i} {y = suc i - 1} (omega arith)
+local_step text ws (suc i) x h = ap (λ (j : ℕ). pick (same (local_at text ws j).name x) (some (local_at text ws j)) (local_of (locals_in text ws j) x)) {x = i} {y = suc i - 1} (omega arith)
 
-module _ {text ws : List ℕ} {count i : ℕ} (x : Name) (c : Finding text ws count x i) (l : 0 < i) {p k : ℕ} {r : Bool}
-    (ep : p ≡ get_or ws (4 * (i - 1)) 0) (ek : k ≡ get_or ws (4 * (i - 1) + 1) 0) (er : r ≡ same (part text p k) x) where
-  local_now : local_of (locals_in text ws count) x ≡ pick r (local_entry text ws i) (local_of (locals_in text ws (i - 1)) x)
-  unfolding local_at
-  local_now = c.rest ∙ (local_step text ws i x l ∙ rw (← ep, ← ek, ← er))
+module _ {text ws : List ℕ} {count i : ℕ} (x : Name) (c : Finding text ws count x i) (h : 0 < i) (l : N.Local) {r : Bool} (e : known text l ≡ local_at text ws (i - 1)) (er : r ≡ same (part text l.name.place l.name.length) x) where
+  local_now : local_of (locals_in text ws count) x ≡ pick r (some (known text l)) (local_of (locals_in text ws (i - 1)) x)
+  local_now = c.rest ∙ (local_step text ws i x h ∙ rw (← e, ← er) refl)
 
-  pub local_found : r ≡ true → FindsLocal text ws count x i
-  local_found e = record { is = local_now ∙ rw e; among = c.among }
+  pub local_found : r ≡ true → FindsLocal text ws count x (Some l)
+  local_found f = record { is = local_now ∙ rw f refl }
 
   pub local_onward : r ≡ false → Finding text ws count x (i - 1)
-  local_onward e = record { rest = local_now ∙ rw e; among = omega (arith, c.among) }
+  local_onward f = record { rest = local_now ∙ rw f refl; among = omega (arith, c.among) }
 
-pub no_local : {text ws : List ℕ} {count i : ℕ} (x : Name) → Finding text ws count x i → i ≤ 0 → FindsLocal text ws count x 0
-unfolding locals_in local_of local_entry
-no_local {text} {ws} {count} {i} x c l = record { is = c.rest ∙ at i (omega arith); among = omega arith }
+pub no_local : {text ws : List ℕ} {count i : ℕ} (x : Name) → Finding text ws count x i → i ≤ 0 → FindsLocal text ws count x None
+unfolding locals_in local_of
+no_local {text} {ws} {count} {i} x c l = record { is = c.rest ∙ at i (omega arith) }
   where
-    at : (j : ℕ) → j ≡ 0 → local_of (locals_in text ws j) x ≡ local_entry text ws 0
-    at j e = rw e
+    at : (j : ℕ) → j ≡ 0 → local_of (locals_in text ws j) x ≡ none
+    at j e = rw e refl
 
-pub record Seeking (text tree ws : List ℕ) (count : ℕ) (x : Name) (i : ℕ) : Type 0 where
-  pub rest : global_of (globals_in text tree ws count) x ≡ global_of (globals_in text tree ws i) x
-  pub among : i ≤ count
+pub record Seeking (p : Program) (x : Name) (i : ℕ) : Type 0 where
+  pub rest : global_of (globals_of p) x ≡ global_of (globals_in p.text.now p.tree.now p.globals.now i) x
+  pub among : i ≤ p.count
 
 global_step : (text tree ws : List ℕ) (i : ℕ) (x : Name) → 0 < i →
-    global_of (globals_in text tree ws i) x ≡ pick (same (global_at text tree ws (i - 1)).name x) (global_entry text tree ws i) (global_of (globals_in text tree ws (i - 1)) x)
-unfolding global_of globals_in global_entry
+    global_of (globals_in text tree ws i) x ≡ pick (same (global_at text tree ws (i - 1)).name x) (some (global_at text tree ws (i - 1))) (global_of (globals_in text tree ws (i - 1)) x)
+unfolding global_of globals_in
 global_step text tree ws zero x h = absurd (omega arith)
-global_step text tree ws (suc i) x h = ap (λ (j : ℕ). pick (same (global_at text tree ws j).name x) (some (global_at text tree ws i)) (global_of (globals_in text tree ws j) x)) {x = i} {y = suc i - 1} (omega arith)
+global_step text tree ws (suc i) x h = ap (λ (j : ℕ). pick (same (global_at text tree ws j).name x) (some (global_at text tree ws j)) (global_of (globals_in text tree ws j) x)) {x = i} {y = suc i - 1} (omega arith)
 
-module _ {text tree ws : List ℕ} {count i : ℕ} (x : Name) (c : Seeking text tree ws count x i) (l : 0 < i) {h p k : ℕ} {r : Bool}
-    (eh : h ≡ get_or ws (2 * (i - 1)) 0) (ep : p ≡ get_or tree (h + 1) 0) (ek : k ≡ get_or tree (h + 2) 0) (er : r ≡ same (part text p k) x) where
-  global_now : global_of (globals_in text tree ws count) x ≡ pick r (global_entry text tree ws i) (global_of (globals_in text tree ws (i - 1)) x)
+module _ {p : Program} {i : ℕ} (x : Name) (c : Seeking p x i) (h : 0 < i) {g : P.Global} {a n : ℕ} {r : Bool}
+    (eh : g.header ≡ get_or p.globals.now (2 * (i - 1)) 0) (ev : g.value ≡ get_or p.globals.now (2 * (i - 1) + 1) 0) (ea : a ≡ get_or p.tree.now (g.header + 1) 0) (en : n ≡ get_or p.tree.now (g.header + 2) 0) (er : r ≡ same (part p.text.now a n) x) where
+  global_is : global_from p.text.now p.tree.now g.header g.value ≡ global_at p.text.now p.tree.now p.globals.now (i - 1)
   unfolding global_at
-  global_now = c.rest ∙ (global_step text tree ws i x l ∙ rw (← eh, ← ep, ← ek, ← er))
+  global_is = rw (eh, ev) refl
 
-  pub global_found : r ≡ true → FindsGlobal text tree ws count x i
-  global_found e = record { is = global_now ∙ rw e; among = c.among }
+  global_now : global_of (globals_of p) x ≡ pick r (some (global_from p.text.now p.tree.now g.header g.value)) (global_of (globals_in p.text.now p.tree.now p.globals.now (i - 1)) x)
+  global_now = c.rest ∙ (global_step p.text.now p.tree.now p.globals.now i x h ∙ rw (← global_is, ← ea, ← en, ← er) refl)
 
-  pub global_onward : r ≡ false → Seeking text tree ws count x (i - 1)
-  global_onward e = record { rest = global_now ∙ rw e; among = omega (arith, c.among) }
+  pub global_found : r ≡ true → FindsGlobal p x (Some g)
+  global_found f = record { is = global_now ∙ rw f refl }
 
-pub no_global : {text tree ws : List ℕ} {count i : ℕ} (x : Name) → Seeking text tree ws count x i → i ≤ 0 → FindsGlobal text tree ws count x 0
-unfolding globals_in global_of global_entry
-no_global {text} {tree} {ws} {count} {i} x c l = record { is = c.rest ∙ at i (omega arith); among = omega arith }
+  pub global_onward : r ≡ false → Seeking p x (i - 1)
+  global_onward f = record { rest = global_now ∙ rw f refl; among = omega (arith, c.among) }
+
+pub no_global : {p : Program} {i : ℕ} (x : Name) → Seeking p x i → i ≤ 0 → FindsGlobal p x None
+unfolding globals_in global_of
+no_global {p} {i} x c l = record { is = c.rest ∙ at i (omega arith) }
   where
-    at : (j : ℕ) → j ≡ 0 → global_of (globals_in text tree ws j) x ≡ global_entry text tree ws 0
-    at j e = rw e
+    at : (j : ℕ) → j ≡ 0 → global_of (globals_in p.text.now p.tree.now p.globals.now j) x ≡ none
+    at j e = rw e refl
+
+-- the same, for every name that a test stands for
+
+abbrev pub SaysSame : (N'.Name → Bool → Type 0) → Program → Name → Type 0
+SaysSame says p x = (n : N'.Name) (b : Bool) → n.place < 2 ^ 32 → n.length < 2 ^ 32 → says n b → b ≡ same (part p.text.now n.place n.length) x
+
+pub record SeekingBy (says : N'.Name → Bool → Type 0) (p : Program) (i : ℕ) : Type 0 where
+  pub by : (x : Name) → SaysSame says p x → Seeking p x i
+
+pub seeking_starts : (says : N'.Name → Bool → Type 0) (p : Program) → SeekingBy says p p.count
+seeking_starts says p = record { by = λ x h. record { rest = refl; among = omega arith } }
+
+pub sought_none : {p : Program} {i : ℕ} (says : N'.Name → Bool → Type 0) → SeekingBy says p i → i ≤ 0 → FindsBy says p None
+sought_none says c l = record { by = λ x h. no_global x (c.by x h) l }
+
+module _ {p : Program} {i : ℕ} (says : N'.Name → Bool → Type 0) (c : SeekingBy says p i) (l : 0 < i) {g : P.Global} {a n : ℕ} {r : Bool}
+    (eh : g.header ≡ get_or p.globals.now (2 * (i - 1)) 0) (ev : g.value ≡ get_or p.globals.now (2 * (i - 1) + 1) 0) (ea : a ≡ get_or p.tree.now (g.header + 1) 0) (en : n ≡ get_or p.tree.now (g.header + 2) 0)
+    (la : a < 2 ^ 32) (ln : n < 2 ^ 32) (er : says (record { place = a; length = n }) r) where
+  pub sought_one : r ≡ true → FindsBy says p (Some g)
+  sought_one f = record { by = λ x h. global_found x (c.by x h) l eh ev ea en (h _ r la ln er) f }
+
+  pub sought_on : r ≡ false → SeekingBy says p (i - 1)
+  sought_on f = record { by = λ x h. global_onward x (c.by x h) l eh ev ea en (h _ r la ln er) f }
 
 -- Types
-
-pub denied : (r : Bool) → not r ≡ true → r ≡ false
-denied true e = sym e
-denied false e = refl
-
-pub granted : (r : Bool) → not r ≡ false → r ≡ true
-granted true e = refl
-granted false e = sym e
-
-pub same_type_bool : {x : ℕ} (y : ℕ) {r : Bool} → x ≡ 2 → r ≡ eqb y 2 → r ≡ same_ty (type_of x) (type_of y)
-unfolding type_of
-same_type_bool {x} y {r} e h = rw e (go (eqb y 2) h)
-  where
-    go : (c : Bool) → r ≡ c → r ≡ same_ty bool (pick c bool int)
-    go true h = h
-    go false h = h
-
-pub same_type_int : {x : ℕ} (y : ℕ) {r : Bool} → (x ≡ 2 → ⊥) → r ≡ not (eqb y 2) → r ≡ same_ty (type_of x) (type_of y)
-unfolding type_of
-same_type_int {x} y {r} e h = rw (ne_eqb x 2 e) (go (eqb y 2) h)
-  where
-    go : (c : Bool) → r ≡ not c → r ≡ same_ty int (pick c bool int)
-    go true h = h
-    go false h = h
 
 pub record Matching (ts : List ℕ) (i : ℕ) (tree : List ℕ) (j n k : ℕ) : Type 0 where
   pub below : k ≤ n
@@ -169,10 +174,9 @@ type_step : (ts : List ℕ) (x : ℕ) (tree : List ℕ) (y m k : ℕ) → m ≡ 
 unfolding types_from same_types
 type_step ts x tree y m k e = rw e
 
-module _ {ts : List ℕ} {i : ℕ} {tree : List ℕ} {j n k : ℕ} (c : Matching ts i tree j n k) (l : k < n) {x y : ℕ} {r : Bool}
-    (ex : x ≡ get_or ts (i + k) 0) (ey : y ≡ get_or tree (j + 3 * k) 0) (er : r ≡ same_ty (type_of x) (type_of y)) where
+module _ {ts : List ℕ} {i : ℕ} {tree : List ℕ} {j n k : ℕ} (c : Matching ts i tree j n k) (l : k < n) {r : Bool} (er : r ≡ same_ty (type_of (get_or ts (i + k) 0)) (type_of (get_or tree (j + 3 * k) 0))) where
   type_here : same_types (types_from ts 1 i n) (types_from tree 3 j n) ≡ both r (same_types (types_from ts 1 (i + k + 1) (n - (k + 1))) (types_from tree 3 (j + 3 * k + 3) (n - (k + 1))))
-  type_here = c.rest ∙ (type_step ts (i + k) tree (j + 3 * k) (n - k) (n - (k + 1)) (omega arith) ∙ rw (← ex, ← ey, ← er))
+  type_here = c.rest ∙ (type_step ts (i + k) tree (j + 3 * k) (n - k) (n - (k + 1)) (omega arith) ∙ rw (← er))
 
   pub matching_next : r ≡ true → Matching ts i tree j n (k + 1)
   matching_next e = record { below = omega arith; rest = type_here ∙ (rw e (at (i + k + 1) (j + 3 * k + 3) (omega arith) (omega arith))) }

@@ -8,102 +8,86 @@ use native.Mathlib.Omega.{arith}
 use native.Mathlib.Numerals.{unary_clauses}
 use lib.Dec.{eqb, ltb}
 use lib.ListN.{length, get_or, get_or-eq_default}
-use borrow.Author.Tests.{eq-eqb, ne_eqb, lt-ltb, le-ltb, le-leb, lt-leb}
+use borrow.Author.Tests.{eq-eqb, ne_eqb, le-leb, lt-leb}
 use Rattle.word.specs.Choice.{pick, both}
 use Rattle.language.specs.Tree.{Ty, int, bool}
 use Rattle.language.specs.Rules.{same_ty, Local, Global, Signature, global_of, and_then, is_function}
-use Rattle.rules.specs.Tables.{word, part, type_of, result_of, types_from, same_types, local_at, locals_in, global_at, globals_in, signature, thing_at}
+use Rattle.rules.specs.Tables.{word, part, type_of, result_of, types_from, same_types, locals_in, signature, thing_at}
 use Rattle.rules.specs.Scan.{Operand, no_operand, Node, sole, leaf, name_node, element_node, unary_node, strict_node, mark_node, join_node, uppermost, first_start, function_named, call_node, called_node, nodes, node_of}
-use Rattle.rules.specs.Post.{local_entry, FindsLocal, global_entry, FindsGlobal, operands_in, callee_of, Tops}
+use Rattle.std.specs.Prelude.{Some, None}
+use Rattle.rules.specs.declared.names.Name as N
+use Rattle.rules.specs.declared.names.Local as L
+use Rattle.rules.specs.declared.program.Global as P
+use Rattle.rules.specs.declared.program.Program.{Program}
+use Rattle.rules.specs.declared.operands.Operand as O
+use Rattle.rules.specs.Values.{meant, FindsLocal, globals_of, FindsGlobal, FindsFunction}
+use Rattle.rules.specs.Post.{operands_in, Tops}
 
--- entry r, where there is one
-pub entry_local : (text ws : List ℕ) (r : ℕ) → (r ≡ 0 → ⊥) → local_entry text ws r ≡ some (local_at text ws (r - 1))
-unfolding local_entry
-entry_local text ws zero h = absurd (h refl)
-entry_local text ws (suc i) h = ap (λ (j : ℕ). some (local_at text ws j)) {x = i} {y = suc i - 1} (omega arith)
+pub no_name : {text ws : List ℕ} {count : ℕ} (p a here : ℕ) → FindsLocal text ws count (part text p a) None → none ≡ name_node text (locals_in text ws count) p a here
+unfolding name_node
+no_name p a here f = rw f.is refl
 
-pub entry_global : (text tree ws : List ℕ) (r : ℕ) → (r ≡ 0 → ⊥) → global_entry text tree ws r ≡ some (global_at text tree ws (r - 1))
-unfolding global_entry
-entry_global text tree ws zero h = absurd (h refl)
-entry_global text tree ws (suc i) h = ap (λ (j : ℕ). some (global_at text tree ws j)) {x = i} {y = suc i - 1} (omega arith)
+pub name_some : {text ws : List ℕ} {count : ℕ} (p a here : ℕ) {l : L.Local} → FindsLocal text ws count (part text p a) (Some l) → some (leaf (meant l.ty) here 1 l.slot) ≡ name_node text (locals_in text ws count) p a here
+unfolding name_node
+name_some p a here f = rw f.is refl
 
-pub name_none : {text ws : List ℕ} {count r : ℕ} (p a here : ℕ) → FindsLocal text ws count (part text p a) r → r ≡ 0 → none ≡ name_node text (locals_in text ws count) p a here
-unfolding name_node local_entry
-name_none p a here f e = rw (f.is, e) refl
+module _ (p : Program) (x : N.Name) (o : Operand) where
+  abbrev ElementIs : Option Node → Type 0
+  ElementIs n = n ≡ element_node p.text.now (globals_of p) x.place x.length o
 
-pub name_some : {text ws : List ℕ} {count r ty slot : ℕ} (p a here : ℕ) → FindsLocal text ws count (part text p a) r → (r ≡ 0 → ⊥) →
-    ty ≡ word ws (4 * (r - 1) + 2) → slot ≡ word ws (4 * (r - 1) + 3) → some (leaf (type_of ty) here 1 slot) ≡ name_node text (locals_in text ws count) p a here
-unfolding name_node local_at
-name_some {text} {ws} {count} {r} p a here f h e g = rw (f.is, entry_local text ws r h, e, g) refl
+  pub no_thing : FindsGlobal p (part p.text.now x.place x.length) None → ElementIs none
+  unfolding element_node
+  no_thing f = rw f.is refl
 
-pub no_thing : {text tree ws : List ℕ} {count r : ℕ} (p a : ℕ) (o : Operand) → FindsGlobal text tree ws count (part text p a) r → r ≡ 0 → none ≡ element_node text (globals_in text tree ws count) p a o
-unfolding element_node global_entry
-no_thing p a o f e = rw (f.is, e) refl
+  module _ {g : P.Global} {k : Bool} (f : FindsGlobal p (part p.text.now x.place x.length) (Some g)) (e : k ≡ eqb (word p.tree.now g.header) 0) where
+    pub no_array : k ≡ false → ElementIs none
+    unfolding element_node thing_at
+    no_array d = rw (f.is, ← e, d) refl
 
-pub no_array : {text tree ws : List ℕ} {count r h k : ℕ} (p a : ℕ) (o : Operand) → FindsGlobal text tree ws count (part text p a) r → (r ≡ 0 → ⊥) →
-    h ≡ word ws (2 * (r - 1)) → k ≡ word tree h → (k ≡ 0 → ⊥) → none ≡ element_node text (globals_in text tree ws count) p a o
-unfolding element_node global_at thing_at
-no_array {text} {tree} {ws} {count} {r} {h} {k} p a o f n e g d = rw (f.is, entry_global text tree ws r n, ← e, ← g, ne_eqb k 0 d) refl
+    pub no_index : k ≡ true → same_ty int o.type ≡ false → ElementIs none
+    unfolding element_node thing_at sole
+    no_index d b = rw (f.is, ← e, d, b) refl
 
-pub no_index : {text tree ws : List ℕ} {count r h k : ℕ} {b : Bool} (p a : ℕ) (o : Operand) → FindsGlobal text tree ws count (part text p a) r → (r ≡ 0 → ⊥) →
-    h ≡ word ws (2 * (r - 1)) → k ≡ word tree h → k ≡ 0 → b ≡ same_ty int o.type → b ≡ false → none ≡ element_node text (globals_in text tree ws count) p a o
-unfolding element_node global_at thing_at sole
-no_index {text} {tree} {ws} {count} {r} {h} {k} p a o f n e g d t b = rw (f.is, entry_global text tree ws r n, ← e, ← g, eq-eqb k 0 d, ← t, b) refl
+    pub array_some : {size : ℕ} → k ≡ true → same_ty int o.type ≡ true → size ≡ word p.tree.now (g.header + 3) → ElementIs (some (record { takes = 1; type = int; start = o.start; begins = 1; kind = 2; a = g.value; b = size }))
+    unfolding element_node thing_at sole
+    array_some d b v = rw (f.is, ← e, d, b, v) refl
 
-pub array_some : {text tree ws : List ℕ} {count r h k offset size : ℕ} {b : Bool} (p a : ℕ) (o : Operand) → FindsGlobal text tree ws count (part text p a) r → (r ≡ 0 → ⊥) →
-    h ≡ word ws (2 * (r - 1)) → k ≡ word tree h → k ≡ 0 → b ≡ same_ty int o.type → b ≡ true → offset ≡ word ws (2 * (r - 1) + 1) → size ≡ word tree (h + 3) →
-    some (record { takes = 1; type = int; start = o.start; begins = 1; kind = 2; a = offset; b = size }) ≡ element_node text (globals_in text tree ws count) p a o
-unfolding element_node global_at thing_at sole
-array_some {text} {tree} {ws} {count} {r} {h} {k} p a o f n e g d t b u v = rw (f.is, entry_global text tree ws r n, ← e, ← g, eq-eqb k 0 d, ← t, b, u, v) refl
-
-pub unary_wrong : (a : ℕ) (o : Operand) {w : Ty} {b : Bool} → w ≡ pick (eqb a 0) int bool → b ≡ same_ty (w) o.type → b ≡ false → none ≡ unary_node a o
+pub unary_wrong : (a : ℕ) (o : Operand) {w : Ty} → w ≡ pick (eqb a 0) int bool → same_ty w o.type ≡ false → none ≡ unary_node a o
 unfolding unary_node sole
-unary_wrong a o e t b = rw (← e, ← t, b) refl
+unary_wrong a o e b = rw (← e, b) refl
 
-pub unary_right : (a : ℕ) (o : Operand) {w : Ty} {b : Bool} → w ≡ pick (eqb a 0) int bool → b ≡ same_ty (w) o.type → b ≡ true →
+pub unary_right : (a : ℕ) (o : Operand) {w : Ty} → w ≡ pick (eqb a 0) int bool → same_ty w o.type ≡ true →
     some (record { takes = 1; type = w; start = o.start; begins = 1; kind = 4; a = a; b = 0 }) ≡ unary_node a o
 unfolding unary_node sole
-unary_right a o e t b = rw (← e, ← t, b) refl
+unary_right a o e b = rw (← e, b) refl
 
-module _ (a : ℕ) (x y : Operand) {w : Ty} {b : Bool} (e : w ≡ pick (ltb a 2) x.type int) (t : b ≡ same_ty (w) x.type) where
-  pub strict_left : b ≡ false → none ≡ strict_node a x y
+module _ (a : ℕ) (x y : Operand) {w : Ty} (e : w ≡ pick (ltb a 2) x.type int) where
+  pub strict_left : same_ty w x.type ≡ false → none ≡ strict_node a x y
   unfolding strict_node sole
-  strict_left f = rw (← e, ← t, f) refl
+  strict_left f = rw (← e, f) refl
 
-  module _ {c : Bool} (u : c ≡ same_ty (w) y.type) (g : b ≡ true) where
-    pub strict_right : c ≡ false → none ≡ strict_node a x y
+  module _ (g : same_ty w x.type ≡ true) where
+    pub strict_right : same_ty w y.type ≡ false → none ≡ strict_node a x y
     unfolding strict_node sole
-    strict_right f = rw (← e, ← t, ← u, f, g) refl
+    strict_right f = rw (← e, f, g) refl
 
-    pub strict_fine : {v : Ty} → v ≡ pick (ltb a 6) bool int → c ≡ true → some (record { takes = 2; type = v; start = x.start; begins = 1; kind = 5; a = a; b = 0 }) ≡ strict_node a x y
+    pub strict_fine : {v : Ty} → v ≡ pick (ltb a 6) bool int → same_ty w y.type ≡ true → some (record { takes = 2; type = v; start = x.start; begins = 1; kind = 5; a = a; b = 0 }) ≡ strict_node a x y
     unfolding strict_node sole
-    strict_fine z f = rw (← z, ← e, ← t, ← u, f, g) refl
+    strict_fine z f = rw (← z, ← e, f, g) refl
 
-module _ (x y : Operand) {b : Bool} (t : b ≡ same_ty bool x.type) where
-  pub join_left : b ≡ false → none ≡ join_node x y
+module _ (x y : Operand) where
+  pub join_left : same_ty bool x.type ≡ false → none ≡ join_node x y
   unfolding join_node sole
-  join_left f = rw (← t, f) refl
+  join_left f = rw f refl
 
-  module _ {c : Bool} (u : c ≡ same_ty bool y.type) (g : b ≡ true) where
-    pub join_right : c ≡ false → none ≡ join_node x y
+  module _ (g : same_ty bool x.type ≡ true) where
+    pub join_right : same_ty bool y.type ≡ false → none ≡ join_node x y
     unfolding join_node sole
-    join_right f = rw (← t, ← u, f, g) refl
+    join_right f = rw (f, g) refl
 
-    pub join_fine : c ≡ true → some (record { takes = 2; type = bool; start = x.start; begins = 1; kind = 8; a = 0; b = 0 }) ≡ join_node x y
+    pub join_fine : same_ty bool y.type ≡ true → some (record { takes = 2; type = bool; start = x.start; begins = 1; kind = 8; a = 0; b = 0 }) ≡ join_node x y
     unfolding join_node sole
-    join_fine f = rw (← t, ← u, f, g) refl
-
-pub by_equal : (a n : ℕ) {A : Type 0} (x y : A) → a ≡ n → pick (eqb a n) x y ≡ x
-by_equal a n x y e = rw (eq-eqb a n e) refl
-
-pub by_other : (a n : ℕ) {A : Type 0} (x y : A) → (a ≡ n → ⊥) → pick (eqb a n) x y ≡ y
-by_other a n x y e = rw (ne_eqb a n e) refl
-
-pub by_less : (a n : ℕ) {A : Type 0} (x y : A) → a < n → pick (ltb a n) x y ≡ x
-by_less a n x y e = rw (lt-ltb a n e) refl
-
-pub by_more : (a n : ℕ) {A : Type 0} (x y : A) → n ≤ a → pick (ltb a n) x y ≡ y
-by_more a n x y e = rw (le-ltb a n e) refl
+    join_fine f = rw (f, g) refl
 
 -- Calls
 
@@ -161,24 +145,24 @@ module _ (ts ss tree : List ℕ) (h header v n here begins : ℕ) (t : Ty) where
 pub no_arguments : (os : List Operand) (n here : ℕ) → n ≡ 0 → here ≡ first_start n here os
 no_arguments os n here e = rw (eq-eqb n 0 e) refl
 
-pub first_argument : {ts ss : List ℕ} {h ty start : ℕ} (n here : ℕ) → (n ≡ 0 → ⊥) → Tops ts ss h (n - 1) ty start → start ≡ first_start n here (operands_in ts ss h)
-first_argument {ty = ty} n here e t = rw (ne_eqb n 0 e, t.is) refl
+pub first_argument : {ts ss : List ℕ} {h : ℕ} {o : O.Operand} (n here : ℕ) → (n ≡ 0 → ⊥) → Tops ts ss h (n - 1) o → o.start ≡ first_start n here (operands_in ts ss h)
+first_argument n here e t = rw (ne_eqb n 0 e, t.is) refl
 
 -- The function that a name stands for
 
-module _ {text tree ws : List ℕ} {count r : ℕ} (p a : ℕ) (f : FindsGlobal text tree ws count (part text p a) r) where
-  pub no_thing_named : (u v : ℕ) → r ≡ 0 → function_named text (globals_in text tree ws count) p a ≡ callee_of tree false u v
-  unfolding function_named global_entry callee_of
-  no_thing_named u v e = rw (f.is, e) refl
+module _ (p : Program) (x : N.Name) where
+  pub no_thing_named : FindsGlobal p (part p.text.now x.place x.length) None → FindsFunction p x.place x.length None
+  unfolding function_named
+  no_thing_named f = record { is = rw f.is refl }
 
-  module _ {h k : ℕ} (z : r ≡ 0 → ⊥) (e : h ≡ word ws (2 * (r - 1))) (g : k ≡ word tree h) where
-    pub not_function : (u v : ℕ) → k ≡ 0 → function_named text (globals_in text tree ws count) p a ≡ callee_of tree false u v
-    unfolding function_named global_at thing_at callee_of
-    not_function u v d = rw (f.is, entry_global text tree ws r z, ← e, ← g, eq-eqb k 0 d) refl
+  module _ {g : P.Global} {k : Bool} (f : FindsGlobal p (part p.text.now x.place x.length) (Some g)) (e : k ≡ eqb (word p.tree.now g.header) 0) where
+    pub not_function : k ≡ true → FindsFunction p x.place x.length None
+    unfolding function_named thing_at
+    not_function d = record { is = rw (f.is, ← e, d) refl }
 
-    pub a_function_lem : {v : ℕ} → (k ≡ 0 → ⊥) → v ≡ word ws (2 * (r - 1) + 1) → function_named text (globals_in text tree ws count) p a ≡ callee_of tree true h v
-    unfolding function_named global_at thing_at callee_of
-    a_function_lem d x = rw (f.is, entry_global text tree ws r z, ← e, ← g, ne_eqb k 0 d, x) refl
+    pub a_function_lem : k ≡ false → FindsFunction p x.place x.length (Some g)
+    unfolding function_named thing_at
+    a_function_lem d = record { is = rw (f.is, ← e, d) refl }
 
 -- what is made of the thing of a name is made of the function of that name
 pub of_function : (text : List ℕ) (gs : List Global) (p a : ℕ) (make : Signature → Option Node) → and_then (global_of gs (part text p a)) (λ g. and_then (is_function g.thing) make) ≡ and_then (function_named text gs p a) make
@@ -189,31 +173,29 @@ of_function text gs p a make = go (global_of gs (part text p a))
     go none = refl
     go (some g) = refl
 
-module _ (text tree : List ℕ) (gs : List Global) (p a : ℕ) (ok : Bool) (h v : ℕ) (f : function_named text gs p a ≡ callee_of tree ok h v) where
-  pub named_none : (make : Signature → Option Node) → ok ≡ false → none ≡ and_then (global_of gs (part text p a)) (λ g. and_then (is_function g.thing) make)
-  unfolding callee_of
-  named_none make e = sym (of_function text gs p a make ∙ rw (f, e) refl)
+module _ (q : Program) (p a : ℕ) where
+  pub named_none : FindsFunction q p a None → (make : Signature → Option Node) → none ≡ and_then (global_of (globals_of q) (part q.text.now p a)) (λ g. and_then (is_function g.thing) make)
+  named_none f make = sym (of_function q.text.now (globals_of q) p a make ∙ rw f.is refl)
 
-  pub named_some : (make : Signature → Option Node) → ok ≡ true → make (signature tree h v) ≡ and_then (global_of gs (part text p a)) (λ g. and_then (is_function g.thing) make)
-  unfolding callee_of
-  named_some make e = sym (of_function text gs p a make ∙ rw (f, e) refl)
+  pub named_some : {g : P.Global} → FindsFunction q p a (Some g) → (make : Signature → Option Node) → make (signature q.tree.now g.header g.value) ≡ and_then (global_of (globals_of q) (part q.text.now p a)) (λ g. and_then (is_function g.thing) make)
+  named_some f make = sym (of_function q.text.now (globals_of q) p a make ∙ rw f.is refl)
 
   module _ (n here : ℕ) (os : List Operand) where
-    pub no_callee : ok ≡ false → none ≡ called_node text gs p a n here os
+    pub no_callee : FindsFunction q p a None → none ≡ called_node q.text.now (globals_of q) p a n here os
     unfolding called_node
-    no_callee e = named_none (λ s. and_then s.result (λ t. call_node s n here 1 t os)) e
+    no_callee f = named_none f (λ s. and_then s.result (λ t. call_node s n here 1 t os))
 
-    module _ {t : ℕ} (e : ok ≡ true) (u : t ≡ word tree (h + 4)) where
-      pub no_result : t ≡ 0 → none ≡ called_node text gs p a n here os
-      unfolding called_node result_of
-      no_result y = rw (← u, eq-eqb t 0 y) refl ∙ named_some (λ s. and_then s.result (λ t. call_node s n here 1 t os)) e
+    module _ {g : P.Global} (f : FindsFunction q p a (Some g)) {t : ℕ} (u : t ≡ word q.tree.now (g.header + 4)) where
+      pub no_result : none ≡ result_of t → none ≡ called_node q.text.now (globals_of q) p a n here os
+      unfolding called_node
+      no_result y = rw (← u, ← y) refl ∙ named_some f (λ s. and_then s.result (λ t. call_node s n here 1 t os))
 
-      pub with_result : {o : Option Node} → (t ≡ 0 → ⊥) → o ≡ call_node (signature tree h v) n here 1 (type_of t) os → o ≡ called_node text gs p a n here os
-      unfolding called_node result_of
-      with_result y q = q ∙ (has ∙ named_some (λ s. and_then s.result (λ t. call_node s n here 1 t os)) e)
+      pub with_result : {w : Ty} {o : Option Node} → some w ≡ result_of t → o ≡ call_node (signature q.tree.now g.header g.value) n here 1 w os → o ≡ called_node q.text.now (globals_of q) p a n here os
+      unfolding called_node
+      with_result {w} y e = e ∙ (has ∙ named_some f (λ s. and_then s.result (λ t. call_node s n here 1 t os)))
         where
-          has : call_node (signature tree h v) n here 1 (type_of t) os ≡ and_then (result_of (word tree (h + 4))) (λ t. call_node (signature tree h v) n here 1 t os)
-          has = rw (← u, ne_eqb t 0 y) refl
+          has : call_node (signature q.tree.now g.header g.value) n here 1 w os ≡ and_then (result_of (word q.tree.now (g.header + 4))) (λ t. call_node (signature q.tree.now g.header g.value) n here 1 t os)
+          has = rw (← u, ← y) refl
 
 -- Which kind it is
 
@@ -224,8 +206,8 @@ module _ (text : List ℕ) (globals : List Global) (locals : List Local) (p a b 
   at_kind : (i : ℕ) {k : ℕ} {w : Option Node} → k ≡ i → NodeAt i w → NodeAt k w
   at_kind i e h = h ∙ ap (λ (j : ℕ). node_of text globals locals j p a b here os) (sym e)
 
-  pub a_number : {k : ℕ} {w : Option Node} → k ≡ 0 → w ≡ some (leaf (type_of 1) here 0 a) → NodeAt k w
-  unfolding node_of type_of
+  pub a_number : {k : ℕ} {w : Option Node} → k ≡ 0 → w ≡ some (leaf int here 0 a) → NodeAt k w
+  unfolding node_of
   a_number e q = at_kind 0 e q
 
   pub a_name : {k : ℕ} {w : Option Node} → k ≡ 1 → w ≡ name_node text locals p a here → NodeAt k w
@@ -260,25 +242,10 @@ module _ (text : List ℕ) (globals : List Global) (locals : List Local) (p a b 
   unfolding node_of
   a_join e t u q = at_kind 8 e (q ∙ rw (t, u) refl)
 
-  pub a_truth : {k : ℕ} {w : Option Node} → k ≡ 9 → w ≡ some (leaf (type_of 2) here 0 a) → NodeAt k w
-  unfolding node_of type_of
+  pub a_truth : {k : ℕ} {w : Option Node} → k ≡ 9 → w ≡ some (leaf bool here 0 a) → NodeAt k w
+  unfolding node_of
   a_truth e q = at_kind 9 e q
 
   pub no_kind : {k : ℕ} {w : Option Node} → 10 ≤ k → w ≡ none → NodeAt k w
   unfolding node_of
   no_kind l q = q ∙ sym (get_or-eq_default (nodes text globals locals p a b here os) none l)
-
--- a number that misses every arm of a match
-apart : (n x : ℕ) → n ≤ x → (x ≡ n → ⊥) → suc n ≤ x
-apart zero zero l h = absurd (h refl)
-apart zero (suc x) l h = omega arith
-apart (suc n) zero l h = absurd (omega (arith, l))
-apart (suc n) (suc x) l h = omega (arith, apart n x (omega (arith, l)) (λ (e : x ≡ n). h (ap suc e)))
-
-abbrev pub Misses : ℕ → ℕ → Type 0
-Misses zero x = Unit {0}
-Misses (suc n) x = Misses n x × (x ≡ n → ⊥)
-
-pub missed : (n x : ℕ) → Misses n x → n ≤ x
-missed zero x h = omega arith
-missed (suc n) x h = apart n x (missed n x h.0) h.1

@@ -21,12 +21,10 @@ use Rattle.flat.specs.Words.{items_words, rest_length, block_length}
 use Rattle.flat.proofs.Writing.{items_then, block_then}
 use Rattle.rules.specs.Tables.{word, locals_in}
 use Rattle.rules.specs.Named.{NamedExpr, NamedStmt, NamedBlock}
-use Rattle.rules.specs.declared.Given.{Given}
-use Rattle.rules.specs.declared.Given.TheVariants as Is
-use Rattle.rules.specs.declared.Step.{Step}
-use Rattle.rules.specs.declared.Step.TheVariants as To
-use Rattle.rules.specs.declared.Counted.{Counted}
-use Rattle.rules.specs.declared.Counted.TheVariants as Now
+use Rattle.std.specs.Prelude.{Result, Ok, Err, ⊤}
+use Rattle.rules.specs.declared.Broken.{Broken}
+use Rattle.rules.specs.declared.Scope as S
+use Rattle.rules.specs.Values.{broken_at, scope_at}
 use Rattle.rules.specs.Post.{scope_of, Stated}
 use Rattle.rules.specs.Statements.{Heads, Moves, Statement, Tested, TestCase, Conditions, Blocked, BlockCase, CountCase, Blocks, nest_words, holds_blocks}
 use Rattle.rules.proofs.Kept.{assoc}
@@ -155,7 +153,7 @@ no_statements b e = ap G.count e
 -- The statement
 
 module _ (text : List ℕ) (gs : List Global) (locals : List ℕ) (l count : ℕ) (result : Option Ty) (tree : List ℕ) (p q : ℕ) (core : List ℕ) {k at size n m s t rest : ℕ} (hd : Heads (drop p tree) k at size n m s t rest) (hb : holds_blocks k ≡ true) where
-  abbrev Said : Step → List ℕ → List ℕ → Type 0
+  abbrev Said : Result S.Scope Broken → List ℕ → List ℕ → Type 0
   Said r locals' core' = Statement text gs locals l count result (drop p tree) q core r locals' core'
 
   -- where its parts stand
@@ -212,40 +210,40 @@ module _ (text : List ℕ) (gs : List Global) (locals : List ℕ) (l count : ℕ
   pub too_few : (st : T.Stmt) (more : List ℕ) → Located st more → 8 + rest < 8 + 4 * n + size → ⊥
   too_few st more a h = omega (arith, h, a.is_rest, a.is_items, a.is_size, expr_words_lem a.form.test [])
 
-  pub nest_short : {core' : List ℕ} → 8 + rest < 8 + 4 * n + size → Said (To.Broken 0) locals core'
+  pub nest_short : {core' : List ℕ} → 8 + rest < 8 + 4 * n + size → Said (Err (broken_at 0)) locals core'
   nest_short h = record { by = λ st more ew nm. absurd (too_few st more (located st more ew) h) }
 
-  module _ {rc : Given} {core₁ : List ℕ} (x : Conditions text gs (locals_in text locals l) at n (drop (p + 8) tree) (q + 8) core rc core₁) where
+  module _ {rc : Result ⊤ Broken} {core₁ : List ℕ} (x : Conditions text gs (locals_in text locals l) at n (drop (p + 8) tree) (q + 8) core rc core₁) where
     test : (st : T.Stmt) (more : List ℕ) → NamedStmt text st → (a : Located st more) → TestCase a.form.test (expr gs (locals_in text locals l) a.form.test >>= want bool at) (q + 8) core rc core₁
     test st more nm a = x.by a.form.test _ a.test_words a.is_items (a.form.named_test nm)
 
-    pub test_fault : {b : Place} {core' : List ℕ} → rc ≡ Is.Broken b → Said (To.Broken b) locals core'
+    pub test_fault : {b : Broken} {core' : List ℕ} → rc ≡ Err b → Said (Err b) locals core'
     test_fault {b} d = record { by = λ st more ew nm. go st more nm (located st more ew) }
       where
-        go : (st : T.Stmt) (more : List ℕ) → NamedStmt text st → Located st more → stmt gs result st (scope_of gs text locals l count) ≡ breaks b
-        go st more nm a = a.is ∙ stopped _ (subst (λ (o : Given). TestCase a.form.test (expr gs (locals_in text locals l) a.form.test >>= want bool at) (q + 8) core o core₁) d (test st more nm a))
+        go : (st : T.Stmt) (more : List ℕ) → NamedStmt text st → Located st more → stmt gs result st (scope_of gs text locals l count) ≡ breaks b.0
+        go st more nm a = a.is ∙ stopped _ (subst (λ (o : Result ⊤ Broken). TestCase a.form.test (expr gs (locals_in text locals l) a.form.test >>= want bool at) (q + 8) core o core₁) d (test st more nm a))
 
-    module _ {ty : ℕ} (d : rc ≡ Is.Type ty) {ra : Counted} {locals₁ core₂ : List ℕ} (y : Blocks text gs locals l count result s (drop (p + (8 + 4 * n)) tree) (q + (8 + 4 * n)) core₁ ra locals₁ core₂) where
+    module _ (d : rc ≡ Ok tt) {ra : Result ℕ Broken} {locals₁ core₂ : List ℕ} (y : Blocks text gs locals l count result s (drop (p + (8 + 4 * n)) tree) (q + (8 + 4 * n)) core₁ ra locals₁ core₂) where
       tested : (st : T.Stmt) (more : List ℕ) → NamedStmt text st → (a : Located st more) → Tested a.form.test (expr gs (locals_in text locals l) a.form.test >>= want bool at) (q + 8) core core₁
-      tested st more nm a = subst (λ (o : Given). TestCase a.form.test (expr gs (locals_in text locals l) a.form.test >>= want bool at) (q + 8) core o core₁) d (test st more nm a)
+      tested st more nm a = subst (λ (o : Result ⊤ Broken). TestCase a.form.test (expr gs (locals_in text locals l) a.form.test >>= want bool at) (q + 8) core o core₁) d (test st more nm a)
 
-      abbrev Body : (st : T.Stmt) (more : List ℕ) → Located st more → Counted → Type 0
+      abbrev Body : (st : T.Stmt) (more : List ℕ) → Located st more → Result ℕ Broken → Type 0
       Body st more a o = BlockCase a.form.body (block gs result a.form.body (scope_of gs text locals l count)) (q + (8 + 4 * n)) core₁ o core₂
 
       body_of : (st : T.Stmt) (more : List ℕ) → NamedStmt text st → (a : Located st more) → Body st more a ra
       body_of st more nm a = y.by a.form.body _ a.body_words a.is_body (a.form.named_body nm)
 
-      pub body_fault : {b : Place} {core' : List ℕ} → ra ≡ Now.Broken b → Said (To.Broken b) locals₁ core'
+      pub body_fault : {b : Broken} {core' : List ℕ} → ra ≡ Err b → Said (Err b) locals₁ core'
       body_fault {b} f = record { by = λ st more ew nm. go st more nm (located st more ew) }
         where
-          go : (st : T.Stmt) (more : List ℕ) → NamedStmt text st → Located st more → stmt gs result st (scope_of gs text locals l count) ≡ breaks b
+          go : (st : T.Stmt) (more : List ℕ) → NamedStmt text st → Located st more → stmt gs result st (scope_of gs text locals l count) ≡ breaks b.0
           go st more nm a = a.is ∙ went _ (tested st more nm a).is (stopped _ (subst (Body st more a) f (body_of st more nm a)))
 
-      module _ {c : ℕ} (f : ra ≡ Now.Count c) {rb : Counted} {locals₂ core₃ : List ℕ} (z : Blocks text gs locals₁ l c result t (drop (p + (8 + 4 * n + size)) tree) (q + (8 + 4 * n + size)) core₂ rb locals₂ core₃) where
+      module _ {c : ℕ} (f : ra ≡ Ok c) {rb : Result ℕ Broken} {locals₂ core₃ : List ℕ} (z : Blocks text gs locals₁ l c result t (drop (p + (8 + 4 * n + size)) tree) (q + (8 + 4 * n + size)) core₂ rb locals₂ core₃) where
         bodied : (st : T.Stmt) (more : List ℕ) → NamedStmt text st → (a : Located st more) → Blocked a.form.body (block gs result a.form.body (scope_of gs text locals l count)) (q + (8 + 4 * n)) core₁ c core₂
         bodied st more nm a = subst (Body st more a) f (body_of st more nm a)
 
-        abbrev Other : (st : T.Stmt) (more : List ℕ) → Located st more → Counted → Type 0
+        abbrev Other : (st : T.Stmt) (more : List ℕ) → Located st more → Result ℕ Broken → Type 0
         Other st more a o = BlockCase a.form.other (block gs result a.form.other (scope_of gs text locals l c)) (q + (8 + 4 * n + size)) core₂ o core₃
 
         -- what was visible before the body is visible after it
@@ -254,13 +252,13 @@ module _ (text : List ℕ) (gs : List Global) (locals : List ℕ) (l count : ℕ
             subst (λ (ls : List Local). BlockCase a.form.other (block gs result a.form.other (record { visible = ls; count = c })) (q + (8 + 4 * n + size)) core₂ rb core₃) (same_locals text locals locals₁ l y.kept)
             (z.by a.form.other _ a.other_words a.is_other (a.form.named_other nm))
 
-        pub other_fault : {b : Place} {core' : List ℕ} → rb ≡ Now.Broken b → Said (To.Broken b) locals₂ core'
+        pub other_fault : {b : Broken} {core' : List ℕ} → rb ≡ Err b → Said (Err b) locals₂ core'
         other_fault {b} g = record { by = λ st more ew nm. go st more nm (located st more ew) }
           where
-            go : (st : T.Stmt) (more : List ℕ) → NamedStmt text st → Located st more → stmt gs result st (scope_of gs text locals l count) ≡ breaks b
+            go : (st : T.Stmt) (more : List ℕ) → NamedStmt text st → Located st more → stmt gs result st (scope_of gs text locals l count) ≡ breaks b.0
             go st more nm a = a.is ∙ went _ (tested st more nm a).is (went _ (bodied st more nm a).is (stopped _ (subst (Other st more a) g (other_of st more nm a))))
 
-        module _ {d' : ℕ} (g : rb ≡ Now.Count d') {core₄ : List ℕ} (h : core₄ ≡ sets core₃ q (nest_words k size n s t rest)) where
+        module _ {d' : ℕ} (g : rb ≡ Ok d') {core₄ : List ℕ} (h : core₄ ≡ sets core₃ q (nest_words k size n s t rest)) where
           final_locals : locals_in text locals₂ l ≡ locals_in text locals l
           final_locals = same_locals text locals₁ locals₂ l z.kept ∙ same_locals text locals locals₁ l y.kept
 
@@ -299,28 +297,28 @@ module _ (text : List ℕ) (gs : List Global) (locals : List ℕ) (l count : ℕ
               others : Blocked a.form.other (block gs result a.form.other (scope_of gs text locals l c)) (q + (8 + 4 * n + size)) core₂ d' core₃
               others = subst (Other st more a) g (other_of st more nm a)
 
-          pub nest_next : Said (To.Next l d') locals₂ core₄
+          pub nest_next : Said (Ok (scope_at l d')) locals₂ core₄
           nest_next = record { by = λ st more ew nm. final st more nm (located st more ew) }
 
 -- The locals
 
-module _ {text : List ℕ} {gs : List Global} {locals : List ℕ} {l count : ℕ} {result : Option Ty} {n : ℕ} {ws : List ℕ} {q : ℕ} {core : List ℕ} {ra : Counted} {locals₁ core₁ : List ℕ} (y : Blocks text gs locals l count result n ws q core ra locals₁ core₁) where
-  pub body_moves : (b : ℕ) → Moves l count locals (To.Broken b) locals₁
+module _ {text : List ℕ} {gs : List Global} {locals : List ℕ} {l count : ℕ} {result : Option Ty} {n : ℕ} {ws : List ℕ} {q : ℕ} {core : List ℕ} {ra : Result ℕ Broken} {locals₁ core₁ : List ℕ} (y : Blocks text gs locals l count result n ws q core ra locals₁ core₁) where
+  pub body_moves : (b : Broken) → Moves l count locals (Err b) locals₁
   body_moves b = record { kept = y.kept; within = tt }
 
-  module _ {c m : ℕ} {us : List ℕ} {i : ℕ} {core₂ : List ℕ} {rb : Counted} {locals₂ core₃ : List ℕ} (z : Blocks text gs locals₁ l c result m us i core₂ rb locals₂ core₃) where
+  module _ {c m : ℕ} {us : List ℕ} {i : ℕ} {core₂ : List ℕ} {rb : Result ℕ Broken} {locals₂ core₃ : List ℕ} (z : Blocks text gs locals₁ l c result m us i core₂ rb locals₂ core₃) where
     both_kept : (j : ℕ) → j < 4 * l → word locals₂ j ≡ word locals j
     both_kept j h = z.kept j h ∙ y.kept j h
 
-    pub other_moves : (b : ℕ) → Moves l count locals (To.Broken b) locals₂
+    pub other_moves : (b : Broken) → Moves l count locals (Err b) locals₂
     other_moves b = record { kept = both_kept; within = tt }
 
-    pub nest_moves : {d : ℕ} → ra ≡ Now.Count c → rb ≡ Now.Count d → Moves l count locals (To.Next l d) locals₂
+    pub nest_moves : {d : ℕ} → ra ≡ Ok c → rb ≡ Ok d → Moves l count locals (Ok (scope_at l d)) locals₂
     nest_moves {d} f g = go (subst (CountCase count) f y.bounded) (subst (CountCase c) g z.bounded)
       where
-        go : CountCase count (Now.Count c) → CountCase c (Now.Count d) → Moves l count locals (To.Next l d) locals₂
+        go : CountCase count (Ok c) → CountCase c (Ok d) → Moves l count locals (Ok (scope_at l d)) locals₂
         go a b = record { kept = both_kept; within = record { visible = omega arith; counted = omega (arith, a.0, b.0); among = λ h. omega (arith, h, a.0, b.0); few = λ h. b.1 } }
 
-pub counted_so : {text : List ℕ} {gs : List Global} {locals : List ℕ} {l count : ℕ} {result : Option Ty} {n : ℕ} {ws : List ℕ} {q : ℕ} {core : List ℕ} {r : Counted} {locals₁ core₁ : List ℕ} {c : ℕ} → Blocks text gs locals l count result n ws q core r locals₁ core₁ → r ≡ Now.Count c →
+pub counted_so : {text : List ℕ} {gs : List Global} {locals : List ℕ} {l count : ℕ} {result : Option Ty} {n : ℕ} {ws : List ℕ} {q : ℕ} {core : List ℕ} {r : Result ℕ Broken} {locals₁ core₁ : List ℕ} {c : ℕ} → Blocks text gs locals l count result n ws q core r locals₁ core₁ → r ≡ Ok c →
     (count ≤ c) × (c ≤ most_locals)
 counted_so {count = count} y f = subst (CountCase count) f y.bounded

@@ -17,14 +17,18 @@ use Rattle.grammar.proofs.FlatLaws.{args_linear}
 use Rattle.flat.specs.Items.{codes}
 use Rattle.flat.specs.Statements.{flat}
 use Rattle.flat.specs.Words.{items_words, stmt_words, rest_length}
-use Rattle.rules.specs.Tables.{part, type_of, same_types, locals_in, signature}
-use Rattle.rules.specs.Scan.{Operand, Node, Scanned, sole, uppermost, first_start, function_named, call_node, scan}
+use Rattle.rules.specs.Tables.{part, same_types, locals_in, signature}
+use Rattle.rules.specs.Scan.{Operand, Node, Scanned, sole, uppermost, first_start, call_node, scan}
 use Rattle.rules.specs.Named.{NamedArgs}
-use Rattle.rules.specs.declared.Out.{Out}
-use Rattle.rules.specs.declared.Out.TheVariants.{Done, Broken}
-use Rattle.rules.specs.declared.Step.{Step}
-use Rattle.rules.specs.declared.Step.TheVariants as To
-use Rattle.rules.specs.Post.{made, callee_of, operands_in, nothing_scanned, Wrote, ScanCase, Scans, scope_of, Stated, StmtCase}
+use Rattle.std.specs.Prelude.{Some, None, Result, Ok, Err}
+use Rattle.rules.specs.declared.program.Program.{Program}
+use Rattle.rules.specs.declared.program.Global as P
+use Rattle.flat.specs.Numbers.{kind_number}
+use Rattle.rules.specs.declared.nodes.Made.{Made}
+use Rattle.rules.specs.declared.Broken.{Broken}
+use Rattle.rules.specs.declared.Scope as S
+use Rattle.rules.specs.Values.{made, node_in, globals_of, FindsFunction, broken_at, scope_at}
+use Rattle.rules.specs.Post.{operands_in, nothing_scanned, Wrote, ScanCase, Scans, scope_of, Stated, StmtCase}
 use Rattle.rules.specs.Statements.{dropped_node, Runs}
 use Rattle.rules.proofs.Sizes.{args_of, types_of, sized_all}
 use Rattle.rules.proofs.Lengths.{codes_length}
@@ -32,19 +36,19 @@ use Rattle.rules.proofs.Lengths as N
 use Rattle.rules.proofs.Expressions.{afters, afters_words, afters_length, afters_types, args_words_lem, fit_is, scan_args}
 use Rattle.rules.proofs.Elaborating.{Held, held, unheld}
 use Rattle.rules.proofs.Making.{named_none, named_some}
-use Rattle.rules.proofs.Stating.{went, stopped, int_type}
+use Rattle.rules.proofs.Stating.{went, stopped}
 use Rattle.rules.proofs.Storing.{Found, two_rows}
 
 -- A call whose result is dropped, in words
 
-module _ (text tree : List ℕ) (gs : List Global) (p a : ℕ) (ok : Bool) (h v n : ℕ) (os : List Operand) (f : function_named text gs p a ≡ callee_of tree ok h v) where
-  pub no_function : ok ≡ false → none ≡ dropped_node text gs p a n os
+module _ (q : Program) (p a : ℕ) (n : ℕ) (os : List Operand) where
+  pub no_function : FindsFunction q p a None → none ≡ dropped_node q.text.now (globals_of q) p a n os
   unfolding dropped_node
-  no_function e = named_none text tree gs p a ok h v f (λ s. call_node s n 0 0 int os) e
+  no_function f = named_none q p a f (λ s. call_node s n 0 0 int os)
 
-  pub drops : {o : Option Node} → ok ≡ true → o ≡ call_node (signature tree h v) n 0 0 (type_of 1) os → o ≡ dropped_node text gs p a n os
+  pub drops : {g : P.Global} {o : Option Node} → FindsFunction q p a (Some g) → o ≡ call_node (signature q.tree.now g.header g.value) n 0 0 int os → o ≡ dropped_node q.text.now (globals_of q) p a n os
   unfolding dropped_node
-  drops e q = q ∙ (ap (λ (t : Ty). call_node (signature tree h v) n 0 0 t os) int_type ∙ named_some text tree gs p a ok h v f (λ s. call_node s n 0 0 int os) e)
+  drops f e = e ∙ named_some q p a f (λ s. call_node s n 0 0 int os)
 
 -- Its own rules
 
@@ -113,14 +117,14 @@ unfolding G.run_words
 run_extent at x xs = N.args_words_lem xs _ ∙ omega arith
 
 pub run_empty : {text : List ℕ} {gs : List Global} {locals : List ℕ} {l count : ℕ} {result : Option Ty} {at : ℕ} {x : T.Name} {n rest : ℕ} {ws : List ℕ} {q : ℕ} {core core' : List ℕ} → n ≡ 0 →
-    Runs text gs locals l count result at x n rest ws q core (To.Broken 0) locals core'
+    Runs text gs locals l count result at x n rest ws q core (Err (broken_at 0)) locals core'
 run_empty h = record { by = λ xs more ew en er nm. absurd (omega (arith, h, en)) }
 
 pub run_short : {text : List ℕ} {gs : List Global} {locals : List ℕ} {l count : ℕ} {result : Option Ty} {at : ℕ} {x : T.Name} {n rest : ℕ} {ws : List ℕ} {q : ℕ} {core core' : List ℕ} → rest < 4 * (n - 1) + 4 →
-    Runs text gs locals l count result at x n rest ws q core (To.Broken 0) locals core'
+    Runs text gs locals l count result at x n rest ws q core (Err (broken_at 0)) locals core'
 run_short {at = at} {x} h = record { by = λ xs more ew en er nm. absurd (omega (arith, h, en, er, run_extent at x xs)) }
 
-module _ (text : List ℕ) (gs : List Global) (locals : List ℕ) (l count : ℕ) (result : Option Ty) (at size n rest : ℕ) (ws : List ℕ) (q : ℕ) (core : List ℕ) {r : Out} {ts ss core₁ : List ℕ}
+module _ (text : List ℕ) (gs : List Global) (locals : List ℕ) (l count : ℕ) (result : Option Ty) (at size n rest : ℕ) (ws : List ℕ) (q : ℕ) (core : List ℕ) {r : Result ℕ Broken} {ts ss core₁ : List ℕ}
     (x : Scans text gs (locals_in text locals l) (n - 1) ws (q + 8) core r ts ss core₁) (few : n < 2 ^ 32) where
   abbrev stmt_of_here : T.Args → Ruled (C.Stmt × Scope gs)
   stmt_of_here xs = stmt gs result (T.run at (part text at size) xs) (scope_of gs text locals l count)
@@ -128,7 +132,7 @@ module _ (text : List ℕ) (gs : List Global) (locals : List ℕ) (l count : ℕ
   abbrev args_of_here : T.Args → Ruled (List Typed)
   args_of_here xs = exprs gs (locals_in text locals l) xs
 
-  abbrev Said : Step → List ℕ → Type 0
+  abbrev Said : Result S.Scope Broken → List ℕ → Type 0
   Said r core' = Runs text gs locals l count result at (part text at size) n rest ws q core r locals core'
 
   scanned : (xs : T.Args) (more : List ℕ) → ws ≡ G.run_words at (part text at size) xs more → n ≡ G.sizes xs + 1 → NamedArgs text xs → scan text gs (locals_in text locals l) (n - 1) ws nothing_scanned ≡ args_of_here xs >>= λ us. keeps (afters us nothing_scanned)
@@ -139,25 +143,25 @@ module _ (text : List ℕ) (gs : List Global) (locals : List ℕ) (l count : ℕ
   unfolding stmt
   stop_at xs f = stopped _ f
 
-  pub args_fault : {b : Place} {core' : List ℕ} → r ≡ Broken b → Said (To.Broken b) core'
+  pub args_fault : {b : Broken} {core' : List ℕ} → r ≡ Err b → Said (Err b) core'
   args_fault {b} d = record {
-    by = λ xs more ew en er nm. stop_at xs (unheld (args_of_here xs) (λ us. afters us nothing_scanned) b (sym (scanned xs more ew en nm) ∙ subst (λ (o : Out). ScanCase text gs (locals_in text locals l) (n - 1) ws (q + 8) core o ts ss core₁) d x.by));
+    by = λ xs more ew en er nm. stop_at xs (unheld (args_of_here xs) (λ us. afters us nothing_scanned) b.0 (sym (scanned xs more ew en nm) ∙ subst (λ (o : Result ℕ Broken). ScanCase text gs (locals_in text locals l) (n - 1) ws (q + 8) core o ts ss core₁) d x.by));
   }
 
-  module _ {h : ℕ} (d : r ≡ Done h) where
+  module _ {h : ℕ} (d : r ≡ Ok h) where
     wrote : Wrote text gs (locals_in text locals l) (n - 1) ws (q + 8) core h ts ss core₁
-    wrote = subst (λ (o : Out). ScanCase text gs (locals_in text locals l) (n - 1) ws (q + 8) core o ts ss core₁) d x.by
+    wrote = subst (λ (o : Result ℕ Broken). ScanCase text gs (locals_in text locals l) (n - 1) ws (q + 8) core o ts ss core₁) d x.by
 
     abbrev ArgsHeld : T.Args → Type 0
     ArgsHeld xs = Held (args_of_here xs) (λ us. afters us nothing_scanned) (record { operands = operands_in ts ss h; words = wrote.words })
 
     -- how many there are stands in the call's item
-    module _ (many : ℕ) (em : many ≡ get_or (drop (4 * (n - 1)) ws) 3 0) (ok : Bool) (takes ty start begins kind u v : ℕ) (z : made ok takes ty start begins kind u v ≡ dropped_node text gs at size many (operands_in ts ss h)) where
+    module _ (many : ℕ) (em : many ≡ get_or (drop (4 * (n - 1)) ws) 3 0) where
       the_many : (xs : T.Args) (more : List ℕ) → ws ≡ G.run_words at (part text at size) xs more → n ≡ G.sizes xs + 1 → many ≡ G.arg_count xs
       unfolding G.run_words
       the_many xs more ew en = em ∙ (ap (λ (us : List ℕ). get_or (drop (4 * (n - 1)) us) 3 0) ew ∙ ap (λ (us : List ℕ). get_or us 3 0) (past_args xs (4 * (n - 1)) _ (omega (arith, en))))
 
-      decided : {r : Step} {core' : List ℕ} →
+      decided : {r : Result S.Scope Broken} {core' : List ℕ} →
           ((xs : T.Args) (a : ArgsHeld xs) → length a.value ≡ many → n ≡ G.sizes xs + 1 → rest ≡ 4 * G.sizes xs + 4 → StmtCase gs text (stmt_of_here xs) q core r locals core') → Said r core'
       decided {r} {core'} k = record {
         by = λ xs more ew en er nm.
@@ -167,51 +171,51 @@ module _ (text : List ℕ) (gs : List Global) (locals : List ℕ) (l count : ℕ
           go : (xs : T.Args) (more : List ℕ) → ws ≡ G.run_words at (part text at size) xs more → n ≡ G.sizes xs + 1 → rest ≡ length (G.run_words at (part text at size) xs []) → ArgsHeld xs → StmtCase gs text (stmt_of_here xs) q core r locals core'
           go xs more ew en er a = k xs a (((sized_all gs (locals_in text locals l) xs).holds a.value a.is).count ∙ sym (the_many xs more ew en)) en (er ∙ run_extent at (part text at size) xs)
 
-      the_node : (xs : T.Args) (a : ArgsHeld xs) → dropped_node text gs at size many (afters a.value nothing_scanned).operands ≡ made ok takes ty start begins kind u v
-      the_node xs a = ap (λ (c : Scanned). dropped_node text gs at size many c.operands) a.gives ∙ sym z
+      the_node : {o : Option Node} (xs : T.Args) (a : ArgsHeld xs) → o ≡ dropped_node text gs at size many (operands_in ts ss h) → dropped_node text gs at size many (afters a.value nothing_scanned).operands ≡ o
+      the_node xs a z = ap (λ (c : Scanned). dropped_node text gs at size many c.operands) a.gives ∙ sym z
 
-      wrong_at : (xs : T.Args) (a : ArgsHeld xs) → length a.value ≡ many → ok ≡ false → stmt_of_here xs ≡ breaks at
-      unfolding stmt made
-      wrong_at xs a c f = went _ a.is (own_wrong text gs at size _ a.value many c (the_node xs a ∙ ap (λ (w : Bool). made w takes ty start begins kind u v) f))
+      wrong_at : (xs : T.Args) (a : ArgsHeld xs) → length a.value ≡ many → made None ≡ dropped_node text gs at size many (operands_in ts ss h) → stmt_of_here xs ≡ breaks at
+      unfolding stmt
+      wrong_at xs a c z = went _ a.is (own_wrong text gs at size _ a.value many c (the_node xs a z))
 
-      pub run_wrong : {core' : List ℕ} → ok ≡ false → Said (To.Broken at) core'
-      run_wrong f = decided (λ xs a c en er. wrong_at xs a c f)
+      pub run_wrong : {core' : List ℕ} → made None ≡ dropped_node text gs at size many (operands_in ts ss h) → Said (Err (broken_at at)) core'
+      run_wrong z = decided (λ xs a c en er. wrong_at xs a c z)
 
-      the_call : (xs : T.Args) (a : ArgsHeld xs) (c : length a.value ≡ many) → ok ≡ true → Gives text gs at size (scope_of gs text locals l count) a.value many c (record { takes = takes; type = type_of ty; start = start; begins = begins; kind = kind; a = u; b = v }) (own text gs at size (scope_of gs text locals l count) a.value many c)
-      unfolding made
-      the_call xs a c f = own_fine text gs at size (scope_of gs text locals l count) a.value many c _ (the_node xs a ∙ ap (λ (w : Bool). made w takes ty start begins kind u v) f)
+      module _ (nd : Made) (z : made (Some nd) ≡ dropped_node text gs at size many (operands_in ts ss h)) where
+        the_call : (xs : T.Args) (a : ArgsHeld xs) (c : length a.value ≡ many) → Gives text gs at size (scope_of gs text locals l count) a.value many c (node_in nd) (own text gs at size (scope_of gs text locals l count) a.value many c)
+        the_call xs a c = own_fine text gs at size (scope_of gs text locals l count) a.value many c _ (the_node xs a z)
 
-      fine_at : (xs : T.Args) (a : ArgsHeld xs) (c : length a.value ≡ many) {core' : List ℕ} → ok ≡ true → core' ≡ sets core q (7 ∷ 0 ∷ 0 ∷ n ∷ 0 ∷ 0 ∷ 0 ∷ rest ∷ items_words (codes (args_of a.value) u 0 0 []) []) →
-          n ≡ length (codes (args_of a.value) u 0 0 []) → rest ≡ 4 * length (codes (args_of a.value) u 0 0 []) → Stated gs text (stmt_of_here xs) q core l count locals core'
-      unfolding stmt flat stmt_words rest_length
-      fine_at xs a c f e en er = record { value = C.run u (args_of a.value); is = went _ a.is (the_call xs a c f).0; there = e ∙ same n rest en er }
-        where
-          same : (y w : ℕ) → y ≡ length (codes (args_of a.value) u 0 0 []) → w ≡ 4 * length (codes (args_of a.value) u 0 0 []) →
-              sets core q (7 ∷ 0 ∷ 0 ∷ y ∷ 0 ∷ 0 ∷ 0 ∷ w ∷ items_words (codes (args_of a.value) u 0 0 []) []) ≡
-              sets core q (7 ∷ 0 ∷ 0 ∷ length (codes (args_of a.value) u 0 0 []) ∷ 0 ∷ 0 ∷ 0 ∷ (4 * length (codes (args_of a.value) u 0 0 [])) ∷ items_words (codes (args_of a.value) u 0 0 []) [])
-          same y w e f = rw (e, f) refl
+        fine_at : (xs : T.Args) (a : ArgsHeld xs) (c : length a.value ≡ many) {core' : List ℕ} → core' ≡ sets core q (7 ∷ 0 ∷ 0 ∷ n ∷ 0 ∷ 0 ∷ 0 ∷ rest ∷ items_words (codes (args_of a.value) nd.a 0 0 []) []) →
+            n ≡ length (codes (args_of a.value) nd.a 0 0 []) → rest ≡ 4 * length (codes (args_of a.value) nd.a 0 0 []) → Stated gs text (stmt_of_here xs) q core l count locals core'
+        unfolding stmt flat stmt_words rest_length
+        fine_at xs a c e en er = record { value = C.run nd.a (args_of a.value); is = went _ a.is (the_call xs a c).0; there = e ∙ same n rest en er }
+          where
+            same : (y w : ℕ) → y ≡ length (codes (args_of a.value) nd.a 0 0 []) → w ≡ 4 * length (codes (args_of a.value) nd.a 0 0 []) →
+                sets core q (7 ∷ 0 ∷ 0 ∷ y ∷ 0 ∷ 0 ∷ 0 ∷ w ∷ items_words (codes (args_of a.value) nd.a 0 0 []) []) ≡
+                sets core q (7 ∷ 0 ∷ 0 ∷ length (codes (args_of a.value) nd.a 0 0 []) ∷ 0 ∷ 0 ∷ 0 ∷ (4 * length (codes (args_of a.value) nd.a 0 0 [])) ∷ items_words (codes (args_of a.value) nd.a 0 0 []) [])
+            same y w e f = rw (e, f) refl
 
-      items : (xs : T.Args) (a : ArgsHeld xs) → n ≡ G.sizes xs + 1 → n ≡ length (codes (args_of a.value) u 0 0 [])
-      items xs a en = en ∙ (sym ((sized_all gs (locals_in text locals l) xs).holds a.value a.is).same ∙ sym (codes_length (args_of a.value) u 0 0 [] ∙ omega arith))
+        items : (xs : T.Args) (a : ArgsHeld xs) → n ≡ G.sizes xs + 1 → n ≡ length (codes (args_of a.value) nd.a 0 0 [])
+        items xs a en = en ∙ (sym ((sized_all gs (locals_in text locals l) xs).holds a.value a.is).same ∙ sym (codes_length (args_of a.value) nd.a 0 0 [] ∙ omega arith))
 
-      the_words : (xs : T.Args) (a : ArgsHeld xs) → length a.value ≡ many → wrote.words ++ (3 ∷ 0 ∷ u ∷ many ∷ []) ≡ items_words (codes (args_of a.value) u 0 0 []) []
-      the_words xs a c = ap (λ (w : List ℕ). w ++ (3 ∷ 0 ∷ u ∷ many ∷ [])) (sym (ap (λ (y : Scanned). y.words) a.gives) ∙ afters_words a.value nothing_scanned) ∙ sym (args_words_lem a.value u 0 many (omega (arith, c)))
+        the_words : (xs : T.Args) (a : ArgsHeld xs) → length a.value ≡ many → wrote.words ++ (3 ∷ 0 ∷ nd.a ∷ many ∷ []) ≡ items_words (codes (args_of a.value) nd.a 0 0 []) []
+        the_words xs a c = ap (λ (w : List ℕ). w ++ (3 ∷ 0 ∷ nd.a ∷ many ∷ [])) (sym (ap (λ (y : Scanned). y.words) a.gives) ∙ afters_words a.value nothing_scanned) ∙ sym (args_words_lem a.value nd.a 0 many (omega (arith, c)))
 
-      there_at : (xs : T.Args) (a : ArgsHeld xs) (c : length a.value ≡ many) {core₂ core₃ : List ℕ} → ok ≡ true → core₂ ≡ sets core₁ (q + 8 + 4 * (n - 1)) (kind ∷ 0 ∷ u ∷ v ∷ []) → core₃ ≡ sets core₂ q (7 ∷ 0 ∷ 0 ∷ n ∷ 0 ∷ 0 ∷ 0 ∷ rest ∷ []) →
-          core₃ ≡ sets core q (7 ∷ 0 ∷ 0 ∷ n ∷ 0 ∷ 0 ∷ 0 ∷ rest ∷ items_words (codes (args_of a.value) u 0 0 []) [])
-      there_at xs a c f e₂ e₃ =
-          two_rows core q (4 * (n - 1)) (7 ∷ 0 ∷ 0 ∷ n ∷ 0 ∷ 0 ∷ 0 ∷ rest ∷ []) wrote.words (3 ∷ 0 ∷ u ∷ many ∷ []) wrote.there
-          (e₂ ∙ at_kind kind v (the_call xs a c f).1 (the_call xs a c f).2) e₃ wrote.size ∙ ap (λ (w : List ℕ). sets core q (7 ∷ 0 ∷ 0 ∷ n ∷ 0 ∷ 0 ∷ 0 ∷ rest ∷ w)) (the_words xs a c)
-        where
-          at_kind : (k w : ℕ) → k ≡ 3 → w ≡ many → sets core₁ (q + 8 + 4 * (n - 1)) (k ∷ 0 ∷ u ∷ w ∷ []) ≡ sets core₁ (q + 8 + 4 * (n - 1)) (3 ∷ 0 ∷ u ∷ many ∷ [])
-          at_kind k w e f = rw (e, f) refl
+        there_at : (xs : T.Args) (a : ArgsHeld xs) (c : length a.value ≡ many) {core₂ core₃ : List ℕ} → core₂ ≡ sets core₁ (q + 8 + 4 * (n - 1)) (kind_number nd.kind ∷ 0 ∷ nd.a ∷ nd.b ∷ []) → core₃ ≡ sets core₂ q (7 ∷ 0 ∷ 0 ∷ n ∷ 0 ∷ 0 ∷ 0 ∷ rest ∷ []) →
+            core₃ ≡ sets core q (7 ∷ 0 ∷ 0 ∷ n ∷ 0 ∷ 0 ∷ 0 ∷ rest ∷ items_words (codes (args_of a.value) nd.a 0 0 []) [])
+        there_at xs a c e₂ e₃ =
+            two_rows core q (4 * (n - 1)) (7 ∷ 0 ∷ 0 ∷ n ∷ 0 ∷ 0 ∷ 0 ∷ rest ∷ []) wrote.words (3 ∷ 0 ∷ nd.a ∷ many ∷ []) wrote.there
+            (e₂ ∙ at_kind (kind_number nd.kind) nd.b (the_call xs a c).1 (the_call xs a c).2) e₃ wrote.size ∙ ap (λ (w : List ℕ). sets core q (7 ∷ 0 ∷ 0 ∷ n ∷ 0 ∷ 0 ∷ 0 ∷ rest ∷ w)) (the_words xs a c)
+          where
+            at_kind : (k w : ℕ) → k ≡ 3 → w ≡ many → sets core₁ (q + 8 + 4 * (n - 1)) (k ∷ 0 ∷ nd.a ∷ w ∷ []) ≡ sets core₁ (q + 8 + 4 * (n - 1)) (3 ∷ 0 ∷ nd.a ∷ many ∷ [])
+            at_kind k w e f = rw (e, f) refl
 
-      pub run_next : {core₂ core₃ : List ℕ} → ok ≡ true → core₂ ≡ sets core₁ (q + 8 + 4 * (n - 1)) (kind ∷ 0 ∷ u ∷ v ∷ []) → core₃ ≡ sets core₂ q (7 ∷ 0 ∷ 0 ∷ n ∷ 0 ∷ 0 ∷ 0 ∷ rest ∷ []) → Said (To.Next l count) core₃
-      run_next f e₂ e₃ = decided (λ xs a c en er. fine_at xs a c f (there_at xs a c f e₂ e₃) (items xs a en) (omega (arith, er, en, items xs a en)))
+        pub run_next : {core₂ core₃ : List ℕ} → core₂ ≡ sets core₁ (q + 8 + 4 * (n - 1)) (kind_number nd.kind ∷ 0 ∷ nd.a ∷ nd.b ∷ []) → core₃ ≡ sets core₂ q (7 ∷ 0 ∷ 0 ∷ n ∷ 0 ∷ 0 ∷ 0 ∷ rest ∷ []) → Said (Ok (scope_at l count)) core₃
+        run_next e₂ e₃ = decided (λ xs a c en er. fine_at xs a c (there_at xs a c e₂ e₃) (items xs a en) (omega (arith, er, en, items xs a en)))
 
 -- the last word of the call's item
 pub last_word : (tree : List ℕ) (p k : ℕ) → get_or tree (p + 8 + k + 3) 0 ≡ get_or (drop k (drop (p + 8) tree)) 3 0
 last_word tree p k = sym (ap (λ (us : List ℕ). get_or us 3 0) (drop-drop k (p + 8) tree) ∙ get_or-drop (p + 8 + k) tree 3 0)
 
-pub few_left : {text : List ℕ} {gs : List Global} {ls : List Local} {n : ℕ} {ws : List ℕ} {q : ℕ} {core : List ℕ} {r : Out} {h : ℕ} {ts ss core' : List ℕ} → Scans text gs ls n ws q core r ts ss core' → r ≡ Done h → h ≤ n
-few_left {text} {gs} {ls} {n} {ws} {q} {core} {r} {h} {ts} {ss} {core'} x d = (subst (λ (o : Out). ScanCase text gs ls n ws q core o ts ss core') d x.by).few
+pub few_left : {text : List ℕ} {gs : List Global} {ls : List Local} {n : ℕ} {ws : List ℕ} {q : ℕ} {core : List ℕ} {r : Result ℕ Broken} {h : ℕ} {ts ss core' : List ℕ} → Scans text gs ls n ws q core r ts ss core' → r ≡ Ok h → h ≤ n
+few_left {text} {gs} {ls} {n} {ws} {q} {core} {r} {h} {ts} {ss} {core'} x d = (subst (λ (o : Result ℕ Broken). ScanCase text gs ls n ws q core o ts ss core') d x.by).few

@@ -1,6 +1,5 @@
 -- The loop over an expression's items: what was written so far, and what is left says the rest.
 use mathlib.Core.Path.{◌≡◌, refl, sym, ap, ◌∙◌}
-use mathlib.Core.Bool.{Bool, true, false}
 use mathlib.Core.List.{List, [], ◌∷◌, ◌++◌}
 use Prim.Native.Nat.{ℕ, zero, suc, ◌+◌, ◌-◌, ◌*◌, ◌≤◌, ◌<◌}
 use native.Mathlib.Omega.{arith}
@@ -8,8 +7,11 @@ use lib.ListN.{length, get_or, drop, length-append, length-set}
 use lib.Seq.{drop-cons, length-sets, sets}
 use Rattle.language.specs.Rules.{keeps, breaks, ◌>>=◌, found, Global, Local}
 use Rattle.rules.specs.Scan.{Scanned, node_of, charged, added, scan}
-use Rattle.rules.specs.declared.Out.TheVariants.{Done, Broken}
-use Rattle.rules.specs.Post.{operands_in, Pushes, Charges, made, Reads, nothing_scanned, Scans}
+use Rattle.std.specs.Prelude.{Some, None, Ok, Err}
+use Rattle.flat.specs.Numbers.{kind_number}
+use Rattle.rules.specs.declared.nodes.Made.{Made}
+use Rattle.rules.specs.Values.{made, broken_at}
+use Rattle.rules.specs.Post.{operands_in, Pushes, Charges, Reads, nothing_scanned, Scans}
 use Rattle.rules.proofs.Stacks.{sets_append}
 
 -- four words of a list, and those after them
@@ -57,7 +59,7 @@ scan_starts text gs ls n tree p q ts ss core =
 
 module _ {text : List ℕ} {gs : List Global} {ls : List Local} {n : ℕ} {tree : List ℕ} {p q : ℕ} {ts₀ ss₀ core₀ : List ℕ} {i h : ℕ} {ts ss core : List ℕ}
     (c : Scanning text gs ls n tree p q ts₀ ss₀ core₀ i h ts ss core) where
-  pub scan_ends : n ≤ i → Scans text gs ls n (drop p tree) q core₀ (Done h) ts ss core
+  pub scan_ends : n ≤ i → Scans text gs ls n (drop p tree) q core₀ (Ok h) ts ss core
   unfolding scan
   scan_ends l = record { by = record { words = c.words; is = c.rest ∙ at (n - i) (omega (arith, l)); there = c.there; size = omega (arith, c.size, c.below, l); few = omega (arith, c.few, c.below) } }
     where
@@ -68,7 +70,7 @@ module _ {text : List ℕ} {gs : List Global} {ls : List Local} {n : ℕ} {tree 
   core_kept = ap length c.there ∙ length-sets core₀ q c.words
 
   module _ (l : i < n) where
-    pub words_end : {ts' ss' core' : List ℕ} → length tree < p + 4 * i + 4 → Scans text gs ls n (drop p tree) q core₀ (Broken 0) ts' ss' core'
+    pub words_end : {ts' ss' core' : List ℕ} → length tree < p + 4 * i + 4 → Scans text gs ls n (drop p tree) q core₀ (Err (broken_at 0)) ts' ss' core'
     words_end s = record { by = c.rest ∙ too_short text gs ls (n - i) (drop (p + 4 * i) tree) _ (omega (arith, l)) (short tree (p + 4 * i) s) }
       where
         short : (ws : List ℕ) (j : ℕ) → length ws < j + 4 → length (drop j ws) < 4
@@ -88,27 +90,27 @@ module _ {text : List ℕ} {gs : List Global} {ls : List Local} {n : ℕ} {tree 
               (found (node_of text gs ls k place a b to (operands_in ts ss h)) place >>= λ v. scan text gs ls (n - (i + 1)) (drop (p + 4 * (i + 1)) tree) (added v (record { operands = operands_in ts ss h; words = c.words })))
           at x y e f = rw (e, f) refl
 
-      pub rule_broken : {ts' ss' core' : List ℕ} (ok : Bool) (takes ty start begins kind u v : ℕ) → made ok takes ty start begins kind u v ≡ node_of text gs ls k place a b to (operands_in ts ss h) → ok ≡ false →
-          Scans text gs ls n (drop p tree) q core₀ (Broken place) ts' ss' core'
-      unfolding made found ◌>>=◌
-      rule_broken ok takes ty start begins kind u v e f = record { by = here ∙ rw (← e, f) refl }
+      pub rule_broken : {ts' ss' core' : List ℕ} → made None ≡ node_of text gs ls k place a b to (operands_in ts ss h) →
+          Scans text gs ls n (drop p tree) q core₀ (Err (broken_at place)) ts' ss' core'
+      unfolding found ◌>>=◌
+      rule_broken e = record { by = here ∙ rw (← e) refl }
 
-      module _ (ok : Bool) (takes ty start begins kind u v : ℕ) {ts' ss' core₁ core₂ : List ℕ} {h' : ℕ} (e : made ok takes ty start begins kind u v ≡ node_of text gs ls k place a b to (operands_in ts ss h)) (f : ok ≡ true)
-          (x : Pushes ts ss h takes ty start h' ts' ss') (y : core₁ ≡ sets core (q + 4 * i) (kind ∷ 0 ∷ u ∷ v ∷ [])) (z : Charges core₁ q (4 * i + 4) start begins core₂) (kt : length ts' ≡ length ts) (ks : length ss' ≡ length ss) where
-        item_there : core₁ ≡ sets core₀ q (c.words ++ (kind ∷ 0 ∷ u ∷ v ∷ []))
-        item_there = y ∙ (ap (λ (w : List ℕ). sets w (q + 4 * i) (kind ∷ 0 ∷ u ∷ v ∷ [])) c.there ∙ (ap (λ (j : ℕ). sets (sets core₀ q c.words) (q + j) (kind ∷ 0 ∷ u ∷ v ∷ [])) (sym c.size) ∙ sets_append core₀ q c.words (kind ∷ 0 ∷ u ∷ v ∷ [])))
+      module _ (w : Made) {ts' ss' core₁ core₂ : List ℕ} {h' : ℕ} (e : made (Some w) ≡ node_of text gs ls k place a b to (operands_in ts ss h))
+          (x : Pushes ts ss h w.takes w.gives h' ts' ss') (y : core₁ ≡ sets core (q + 4 * i) (kind_number w.kind ∷ 0 ∷ w.a ∷ w.b ∷ [])) (z : Charges core₁ q (4 * i + 4) w.gives.start w.begins core₂) (kt : length ts' ≡ length ts) (ks : length ss' ≡ length ss) where
+        item_there : core₁ ≡ sets core₀ q (c.words ++ (kind_number w.kind ∷ 0 ∷ w.a ∷ w.b ∷ []))
+        item_there = y ∙ (ap (λ (us : List ℕ). sets us (q + 4 * i) (kind_number w.kind ∷ 0 ∷ w.a ∷ w.b ∷ [])) c.there ∙ (ap (λ (j : ℕ). sets (sets core₀ q c.words) (q + j) (kind_number w.kind ∷ 0 ∷ w.a ∷ w.b ∷ [])) (sym c.size) ∙ sets_append core₀ q c.words (kind_number w.kind ∷ 0 ∷ w.a ∷ w.b ∷ [])))
 
-        item_size : length (c.words ++ (kind ∷ 0 ∷ u ∷ v ∷ [])) ≡ 4 * i + 4
-        item_size = length-append c.words (kind ∷ 0 ∷ u ∷ v ∷ []) ∙ ap (λ (j : ℕ). j + 4) c.size
+        item_size : length (c.words ++ (kind_number w.kind ∷ 0 ∷ w.a ∷ w.b ∷ [])) ≡ 4 * i + 4
+        item_size = length-append c.words (kind_number w.kind ∷ 0 ∷ w.a ∷ w.b ∷ []) ∙ ap (λ (j : ℕ). j + 4) c.size
 
         pub item_done : Scanning text gs ls n tree p q ts₀ ss₀ core₀ (i + 1) h' ts' ss' core₂
-        unfolding made found ◌>>=◌ added charged
+        unfolding found ◌>>=◌ added charged
         item_done =
             record {
-              words = charged begins start (c.words ++ (kind ∷ 0 ∷ u ∷ v ∷ []));
-              rest = here ∙ rw (← e, f, x.is) refl;
-              there = z.is core₀ (c.words ++ (kind ∷ 0 ∷ u ∷ v ∷ [])) item_there item_size;
-              size = length-set (c.words ++ (kind ∷ 0 ∷ u ∷ v ∷ [])) _ _ ∙ (item_size ∙ omega arith);
+              words = charged w.begins w.gives.start (c.words ++ (kind_number w.kind ∷ 0 ∷ w.a ∷ w.b ∷ []));
+              rest = here ∙ rw (← e, x.is) refl;
+              there = z.is core₀ (c.words ++ (kind_number w.kind ∷ 0 ∷ w.a ∷ w.b ∷ [])) item_there item_size;
+              size = length-set (c.words ++ (kind_number w.kind ∷ 0 ∷ w.a ∷ w.b ∷ [])) _ _ ∙ (item_size ∙ omega arith);
               few = omega (arith, x.most, c.few);
               below = omega (arith, l);
               types = kt ∙ c.types;

@@ -10,6 +10,10 @@ use lib.Seq.{get_or-set_same, get_or-set_other, set_out, sets, length-sets, set_
 use Rattle.word.specs.Word.{add_w}
 use Rattle.rules.specs.Tables.{word, type_of}
 use Rattle.rules.specs.Scan.{Operand, no_operand, charged}
+use Rattle.grammar.specs.declared.tree.ValueType.{ValueType}
+use Rattle.grammar.specs.declared.tree.ValueType.TheVariants as V
+use Rattle.rules.specs.declared.operands.Operand as O
+use Rattle.rules.specs.Values.{meant}
 use Rattle.rules.specs.Post.{operands_in, Tops, Pushes, Charges}
 
 length_operands : (ts ss : List ℕ) (h : ℕ) → length (operands_in ts ss h) ≡ h
@@ -17,8 +21,7 @@ unfolding operands_in
 length_operands ts ss zero = refl
 length_operands ts ss (suc h) = ap suc (length_operands ts ss h)
 
-pub top_none : (ts ss : List ℕ) (h j : ℕ) → h ≤ j → Tops ts ss h j 0 0
-unfolding type_of
+pub top_none : (ts ss : List ℕ) (h j : ℕ) → h ≤ j → Tops ts ss h j (record { ty = V.Int; start = 0 })
 top_none ts ss h j l = record { is = get_or-eq_default (operands_in ts ss h) no_operand (omega (arith, l, length_operands ts ss h)) }
 
 abbrev operand : List ℕ → List ℕ → ℕ → Operand
@@ -30,7 +33,7 @@ at_depth ts ss zero j l = absurd (omega (arith, l))
 at_depth ts ss (suc h) zero l = ap (operand ts ss) {x = h} {y = suc h - 0 - 1} (omega arith)
 at_depth ts ss (suc h) (suc j) l = at_depth ts ss h j (omega (arith, l)) ∙ ap (operand ts ss) {x = h - j - 1} {y = suc h - suc j - 1} (omega (arith, l))
 
-pub top_some : (ts ss : List ℕ) (h j : ℕ) {ty start : ℕ} → (j < h) → ty ≡ word ts (h - j - 1) → start ≡ word ss (h - j - 1) → Tops ts ss h j ty start
+pub top_some : (ts ss : List ℕ) (h j : ℕ) {ty : ValueType} {start : ℕ} → (j < h) → meant ty ≡ type_of (word ts (h - j - 1)) → start ≡ word ss (h - j - 1) → Tops ts ss h j (record { ty = ty; start = start })
 top_some ts ss h j l e f = record { is = rw (e, f) (at_depth ts ss h j l) }
 
 drop_operands : (ts ss : List ℕ) (h n : ℕ) → drop n (operands_in ts ss h) ≡ operands_in ts ss (h - n)
@@ -44,15 +47,16 @@ unfolding operands_in
 same_below ts ss us vs zero e f = refl
 same_below ts ss us vs (suc h) e f = rw (e h (omega arith), f h (omega arith), same_below ts ss us vs h (λ i l. e i (omega (arith, l))) (λ i l. f i (omega (arith, l)))) refl
 
-pub pushed : {ts ss : List ℕ} (h n at ty start : ℕ) → at ≡ h - n → h < length ts → h < length ss → Pushes ts ss h n ty start (at + 1) (set ts at ty) (set ss at start)
+pub pushed : {ts ss : List ℕ} (h n at ty : ℕ) (o : O.Operand) → type_of ty ≡ meant o.ty → at ≡ h - n → h < length ts → h < length ss → Pushes ts ss h n o (at + 1) (set ts at ty) (set ss at o.start)
 unfolding operands_in
-pushed {ts} {ss} h n at ty start e k l =
+pushed {ts} {ss} h n at ty o t e k l =
     record {
       is = rw (
         add-one at,
         get_or-set_same ts at ty 0 (omega (arith, e, k)),
-        get_or-set_same ss at start 0 (omega (arith, e, l)),
-        same_below ts ss (set ts at ty) (set ss at start) at (λ i m. get_or-set_other ts at i ty 0 (λ (q : i ≡ at). omega (arith, q, m))) (λ i m. get_or-set_other ss at i start 0 (λ (q : i ≡ at). omega (arith, q, m))),
+        get_or-set_same ss at o.start 0 (omega (arith, e, l)),
+        t,
+        same_below ts ss (set ts at ty) (set ss at o.start) at (λ i m. get_or-set_other ts at i ty 0 (λ (q : i ≡ at). omega (arith, q, m))) (λ i m. get_or-set_other ss at i o.start 0 (λ (q : i ≡ at). omega (arith, q, m))),
         drop_operands ts ss h n,
         e,
       ) refl;

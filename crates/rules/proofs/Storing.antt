@@ -18,19 +18,21 @@ use Rattle.flat.specs.Items as I
 use Rattle.flat.specs.Statements.{flat}
 use Rattle.flat.specs.Words.{kind_words, items_words, stmt_words, rest_length}
 use Rattle.flat.proofs.Writing.{items_then}
-use Rattle.rules.specs.Tables.{part, type_of, locals_in}
+use Rattle.rules.specs.Tables.{part, locals_in}
 use Rattle.rules.specs.Scan.{Node, sole, element_node}
 use Rattle.rules.specs.Named.{NamedExpr}
-use Rattle.rules.specs.declared.Given.{Given}
-use Rattle.rules.specs.declared.Given.TheVariants as Is
-use Rattle.rules.specs.declared.Step.{Step}
-use Rattle.rules.specs.declared.Step.TheVariants as To
-use Rattle.rules.specs.Post.{made, TypedAs, ExprCase, Elaborates, scope_of, Stated, StmtCase}
+use Rattle.std.specs.Prelude.{Some, None, Result, Ok, Err}
+use Rattle.rules.specs.declared.nodes.Made.{Made}
+use Rattle.rules.specs.declared.Broken.{Broken}
+use Rattle.rules.specs.declared.Scope as S
+use Rattle.grammar.specs.declared.tree.ValueType.{ValueType}
+use Rattle.rules.specs.Values.{meant, made, node_in, broken_at, scope_at}
+use Rattle.rules.specs.Post.{TypedAs, ExprCase, Elaborates, scope_of, Stated, StmtCase}
 use Rattle.rules.specs.Statements.{StatesTwo}
 use Rattle.rules.proofs.Sizes.{sized}
 use Rattle.rules.proofs.Lengths.{expr_words_lem, code_length}
 use Rattle.rules.proofs.Stacks.{sets_append}
-use Rattle.rules.proofs.Stating.{sets_before, went, stopped, int_type, typed, faulty}
+use Rattle.rules.proofs.Stating.{sets_before, went, stopped, typed, faulty}
 use Rattle.rules.proofs.Heading.{past_expr}
 
 -- Its own rules
@@ -104,7 +106,7 @@ module _ (text : List ℕ) (gs : List Global) (at size : ℕ) {S : Type 0} (s : 
 -- Its words
 
 -- as many items as the tree's
-pub items_many : (gs : List Global) (ls : List Local) (e : T.Expr) {q : ℕ} {core : List ℕ} {ty : ℕ} {core' : List ℕ} (t : TypedAs (expr gs ls e) q core ty core') → length (code t.value.expr 0 []) ≡ G.size e
+pub items_many : (gs : List Global) (ls : List Local) (e : T.Expr) {q : ℕ} {core : List ℕ} {ty : ValueType} {core' : List ℕ} (t : TypedAs (expr gs ls e) q core ty core') → length (code t.value.expr 0 []) ≡ G.size e
 items_many gs ls e t = code_length t.value.expr 0 [] ∙ (omega (arith) ∙ ((sized gs ls e).holds t.value t.is).same)
 
 kind_words_lem : (k : Kind) (c : ℕ) (more : List ℕ) → length (kind_words k c more) ≡ 4 + length more
@@ -135,7 +137,7 @@ in_front core q i h us e f g = f ∙ (ap (λ (w : List ℕ). sets w q h) (e ∙ 
 pub two_rows : (core : List ℕ) {core₁ core₂ core₃ : List ℕ} (q n : ℕ) (h us vs : List ℕ) → core₁ ≡ sets core (q + length h) us → core₂ ≡ sets core₁ (q + length h + n) vs → core₃ ≡ sets core₂ q h → length us ≡ n → core₃ ≡ sets core q (h ++ (us ++ vs))
 two_rows core q n h us vs e f g m = in_front core q (q + length h) h (us ++ vs) (row core (q + length h) (q + length h + n) us vs e f (ap (λ (k : ℕ). q + length h + k) (sym m))) g refl
 
-module _ (text : List ℕ) (gs : List Global) (locals : List ℕ) (l count : ℕ) (result : Option Ty) (at size : ℕ) {n : ℕ} (m rest : ℕ) {ws : List ℕ} (q : ℕ) {core core₁ : List ℕ} {r₁ : Given}
+module _ (text : List ℕ) (gs : List Global) (locals : List ℕ) (l count : ℕ) (result : Option Ty) (at size : ℕ) {n : ℕ} (m rest : ℕ) {ws : List ℕ} (q : ℕ) {core core₁ : List ℕ} {r₁ : Result ValueType Broken}
     (x : Elaborates text gs (locals_in text locals l) n ws (q + 8) core r₁ core₁) where
   abbrev store_of : T.Expr → T.Expr → T.Stmt
   store_of i e = T.store at (part text at size) i e
@@ -146,17 +148,17 @@ module _ (text : List ℕ) (gs : List Global) (locals : List ℕ) (l count : ℕ
   abbrev expr_of_here : T.Expr → Ruled Typed
   expr_of_here e = expr gs (locals_in text locals l) e
 
-  abbrev Said : Step → List ℕ → Type 0
+  abbrev Said : Result S.Scope Broken → List ℕ → Type 0
   Said r core' = StatesTwo text gs locals l count result (λ i e. store_of i e) n m rest ws q core r locals core'
 
   index_stop : {b : Place} (i e : T.Expr) → expr_of_here i ≡ breaks b → stmt_of_here i e ≡ breaks b
   unfolding stmt
   index_stop i e f = stopped _ f
 
-  pub index_fault : {b : Place} {core' : List ℕ} → r₁ ≡ Is.Broken b → Said (To.Broken b) core'
+  pub index_fault : {b : Broken} {core' : List ℕ} → r₁ ≡ Err b → Said (Err b) core'
   index_fault d = record { by = λ i e more ew en em er ni ne. index_stop i e (faulty q x i (G.expr_words e more) ew en ni d) }
 
-  module _ {index : ℕ} (d : r₁ ≡ Is.Type index) {us : List ℕ} {r₂ : Given} {core₂ : List ℕ} (y : 4 * n ≤ rest → Elaborates text gs (locals_in text locals l) m us (q + 8 + 4 * n) core₁ r₂ core₂) (eu : us ≡ drop (4 * n) ws) where
+  module _ {index : ValueType} (d : r₁ ≡ Ok index) {us : List ℕ} {r₂ : Result ValueType Broken} {core₂ : List ℕ} (y : 4 * n ≤ rest → Elaborates text gs (locals_in text locals l) m us (q + 8 + 4 * n) core₁ r₂ core₂) (eu : us ≡ drop (4 * n) ws) where
     second : (i e : T.Expr) (more : List ℕ) → ws ≡ G.expr_words i (G.expr_words e more) → n ≡ G.size i → us ≡ G.expr_words e more
     second i e more ew en = eu ∙ (ap (drop (4 * n)) ew ∙ past_expr i (4 * n) (G.expr_words e more) (omega (arith, en)))
 
@@ -167,12 +169,12 @@ module _ (text : List ℕ) (gs : List Global) (locals : List ℕ) (l count : ℕ
     the_value : (i e : T.Expr) (more : List ℕ) → ws ≡ G.expr_words i (G.expr_words e more) → n ≡ G.size i → m ≡ G.size e → rest ≡ G.expr_length i + G.expr_length e → NamedExpr text e → ExprCase (expr_of_here e) (q + 8 + 4 * n) core₁ r₂ core₂
     the_value i e more ew en em er ne = (y (omega (arith, en, er, expr_words_lem i []))).by e more (second i e more ew en) em ne
 
-    pub value_fault : {b : Place} {core' : List ℕ} → r₂ ≡ Is.Broken b → Said (To.Broken b) core'
+    pub value_fault : {b : Broken} {core' : List ℕ} → r₂ ≡ Err b → Said (Err b) core'
     value_fault f = record {
-      by = λ i e more ew en em er ni ne. value_stop i e (typed q x i (G.expr_words e more) ew en ni d) (subst (λ (o : Given). ExprCase (expr_of_here e) (q + 8 + 4 * n) core₁ o core₂) f (the_value i e more ew en em er ne));
+      by = λ i e more ew en em er ni ne. value_stop i e (typed q x i (G.expr_words e more) ew en ni d) (subst (λ (o : Result ValueType Broken). ExprCase (expr_of_here e) (q + 8 + 4 * n) core₁ o core₂) f (the_value i e more ew en em er ne));
     }
 
-    module _ {value : ℕ} (f : r₂ ≡ Is.Type value) where
+    module _ {value : ValueType} (f : r₂ ≡ Ok value) where
       abbrev Index : T.Expr → Type 0
       Index i = TypedAs (expr_of_here i) (q + 8) core index core₁
 
@@ -180,52 +182,51 @@ module _ (text : List ℕ) (gs : List Global) (locals : List ℕ) (l count : ℕ
       Value e = TypedAs (expr_of_here e) (q + 8 + 4 * n) core₁ value core₂
 
       -- what both expressions give decides
-      decided : {r : Step} {core' : List ℕ} →
+      decided : {r : Result S.Scope Broken} {core' : List ℕ} →
           ((i e : T.Expr) (a : Index i) (b : Value e) → n ≡ G.size i → m ≡ G.size e → rest ≡ G.expr_length i + G.expr_length e → StmtCase gs text (stmt_of_here i e) q core r locals core') →
           Said r core'
       decided k = record {
         by = λ i e more ew en em er ni ne.
-            k i e (typed q x i (G.expr_words e more) ew en ni d) (subst (λ (o : Given). ExprCase (expr_of_here e) (q + 8 + 4 * n) core₁ o core₂) f (the_value i e more ew en em er ne)) en em er;
+            k i e (typed q x i (G.expr_words e more) ew en ni d) (subst (λ (o : Result ValueType Broken). ExprCase (expr_of_here e) (q + 8 + 4 * n) core₁ o core₂) f (the_value i e more ew en em er ne)) en em er;
       }
 
-      value_off : (i e : T.Expr) → Index i → Value e → same_ty int (type_of value) ≡ false → stmt_of_here i e ≡ breaks at
+      value_off : (i e : T.Expr) → Index i → Value e → same_ty int (meant value) ≡ false → stmt_of_here i e ≡ breaks at
       unfolding stmt
       value_off i e a b h = went _ a.is (went _ b.is (own_value text gs at size _ a.value b.value (ap (same_ty int) b.type ∙ h)))
 
-      pub value_wrong : {b : Bool} {core' : List ℕ} → b ≡ same_ty (type_of 1) (type_of value) → b ≡ false → Said (To.Broken at) core'
-      value_wrong z h = decided (λ i e a b en em er. value_off i e a b (ap (λ (u : Ty). same_ty u (type_of value)) (sym int_type) ∙ (sym z ∙ h)))
+      pub value_wrong : {core' : List ℕ} → same_ty int (meant value) ≡ false → Said (Err (broken_at at)) core'
+      value_wrong h = decided (λ i e a b en em er. value_off i e a b h)
 
-      module _ (ok : Bool) (takes ty start begins kind u v : ℕ) (z : made ok takes ty start begins kind u v ≡ element_node text gs at size (record { type = type_of index; start = 0 })) where
-        index_off : (i e : T.Expr) → Index i → Value e → ok ≡ false → stmt_of_here i e ≡ breaks at
-        unfolding stmt made
-        index_off i e a b h = went _ a.is (went _ b.is (own_element text gs at size _ a.value b.value
-            (ap (λ (w : Ty). element_node text gs at size (record { type = w; start = 0 })) a.type ∙ (sym z ∙ ap (λ (w : Bool). made w takes ty start begins kind u v) h))))
+      index_off : (i e : T.Expr) → Index i → Value e → made None ≡ element_node text gs at size (record { type = meant index; start = 0 }) → stmt_of_here i e ≡ breaks at
+      unfolding stmt
+      index_off i e a b z = went _ a.is (went _ b.is (own_element text gs at size _ a.value b.value (ap (λ (t : Ty). element_node text gs at size (record { type = t; start = 0 })) a.type ∙ sym z)))
 
-        pub index_wrong : {core' : List ℕ} → ok ≡ false → Said (To.Broken at) core'
-        index_wrong h = decided (λ i e a b en em er. index_off i e a b h)
+      pub index_wrong : {core' : List ℕ} → made None ≡ element_node text gs at size (record { type = meant index; start = 0 }) → Said (Err (broken_at at)) core'
+      index_wrong z = decided (λ i e a b en em er. index_off i e a b z)
 
-        store_at : (i e : T.Expr) {core' : List ℕ} (a : Index i) (b : Value e) → ok ≡ true → same_ty int (type_of value) ≡ true → core' ≡ sets core q (1 ∷ u ∷ v ∷ n ∷ m ∷ 0 ∷ 0 ∷ rest ∷ items_words (code a.value.expr 0 []) (items_words (code b.value.expr 0 []) [])) →
+      module _ (nd : Made) (z : made (Some nd) ≡ element_node text gs at size (record { type = meant index; start = 0 })) where
+        store_at : (i e : T.Expr) {core' : List ℕ} (a : Index i) (b : Value e) → same_ty int (meant value) ≡ true → core' ≡ sets core q (1 ∷ nd.a ∷ nd.b ∷ n ∷ m ∷ 0 ∷ 0 ∷ rest ∷ items_words (code a.value.expr 0 []) (items_words (code b.value.expr 0 []) [])) →
             n ≡ length (code a.value.expr 0 []) → m ≡ length (code b.value.expr 0 []) → rest ≡ 4 * length (code a.value.expr 0 []) + 4 * length (code b.value.expr 0 []) →
             Stated gs text (stmt_of_here i e) q core l count locals core'
-        unfolding stmt made flat stmt_words rest_length
-        store_at i e {core'} a b h k c en em er = record {
-          value = C.store (record { offset = u; size = v }) a.value.expr b.value.expr;
-          is = went _ a.is (went _ b.is (own_fine text gs at size _ a.value b.value (record { takes = takes; type = type_of ty; start = start; begins = begins; kind = kind; a = u; b = v })
-              (ap (λ (w : Ty). element_node text gs at size (record { type = w; start = 0 })) a.type ∙ (sym z ∙ ap (λ (w : Bool). made w takes ty start begins kind u v) h)) (ap (same_ty int) b.type ∙ k)));
+        unfolding stmt flat stmt_words rest_length
+        store_at i e {core'} a b k c en em er = record {
+          value = C.store (record { offset = nd.a; size = nd.b }) a.value.expr b.value.expr;
+          is = went _ a.is (went _ b.is (own_fine text gs at size _ a.value b.value (node_in nd)
+              (ap (λ (t : Ty). element_node text gs at size (record { type = t; start = 0 })) a.type ∙ sym z) (ap (same_ty int) b.type ∙ k)));
           there = c ∙ same n m rest en em er;
         }
           where
             same : (x y w : ℕ) → x ≡ length (code a.value.expr 0 []) → y ≡ length (code b.value.expr 0 []) → w ≡ 4 * length (code a.value.expr 0 []) + 4 * length (code b.value.expr 0 []) →
-                sets core q (1 ∷ u ∷ v ∷ x ∷ y ∷ 0 ∷ 0 ∷ w ∷ items_words (code a.value.expr 0 []) (items_words (code b.value.expr 0 []) [])) ≡
-                sets core q (1 ∷ u ∷ v ∷ length (code a.value.expr 0 []) ∷ length (code b.value.expr 0 []) ∷ 0 ∷ 0 ∷ (4 * length (code a.value.expr 0 []) + 4 * length (code b.value.expr 0 [])) ∷ items_words (code a.value.expr 0 []) (items_words (code b.value.expr 0 []) []))
+                sets core q (1 ∷ nd.a ∷ nd.b ∷ x ∷ y ∷ 0 ∷ 0 ∷ w ∷ items_words (code a.value.expr 0 []) (items_words (code b.value.expr 0 []) [])) ≡
+                sets core q (1 ∷ nd.a ∷ nd.b ∷ length (code a.value.expr 0 []) ∷ length (code b.value.expr 0 []) ∷ 0 ∷ 0 ∷ (4 * length (code a.value.expr 0 []) + 4 * length (code b.value.expr 0 [])) ∷ items_words (code a.value.expr 0 []) (items_words (code b.value.expr 0 []) []))
             same x y w e f g = rw (e, f, g) refl
 
-        store_words : (i e : T.Expr) {core₃ : List ℕ} (a : Index i) (b : Value e) → n ≡ G.size i → core₃ ≡ sets core₂ q (1 ∷ u ∷ v ∷ n ∷ m ∷ 0 ∷ 0 ∷ rest ∷ []) →
-            core₃ ≡ sets core q (1 ∷ u ∷ v ∷ n ∷ m ∷ 0 ∷ 0 ∷ rest ∷ items_words (code a.value.expr 0 []) (items_words (code b.value.expr 0 []) []))
+        store_words : (i e : T.Expr) {core₃ : List ℕ} (a : Index i) (b : Value e) → n ≡ G.size i → core₃ ≡ sets core₂ q (1 ∷ nd.a ∷ nd.b ∷ n ∷ m ∷ 0 ∷ 0 ∷ rest ∷ []) →
+            core₃ ≡ sets core q (1 ∷ nd.a ∷ nd.b ∷ n ∷ m ∷ 0 ∷ 0 ∷ rest ∷ items_words (code a.value.expr 0 []) (items_words (code b.value.expr 0 []) []))
         store_words i e a b en c =
-            two_rows core q (4 * n) (1 ∷ u ∷ v ∷ n ∷ m ∷ 0 ∷ 0 ∷ rest ∷ []) (items_words (code a.value.expr 0 []) []) (items_words (code b.value.expr 0 []) []) a.there b.there c (omega (arith, items_words_lem (code a.value.expr 0 []) [], items_many gs (locals_in text locals l) i a, en)) ∙
-            ap (λ (w : List ℕ). sets core q (1 ∷ u ∷ v ∷ n ∷ m ∷ 0 ∷ 0 ∷ rest ∷ w)) (sym (items_then (code a.value.expr 0 []) [] (items_words (code b.value.expr 0 []) [])))
+            two_rows core q (4 * n) (1 ∷ nd.a ∷ nd.b ∷ n ∷ m ∷ 0 ∷ 0 ∷ rest ∷ []) (items_words (code a.value.expr 0 []) []) (items_words (code b.value.expr 0 []) []) a.there b.there c (omega (arith, items_words_lem (code a.value.expr 0 []) [], items_many gs (locals_in text locals l) i a, en)) ∙
+            ap (λ (w : List ℕ). sets core q (1 ∷ nd.a ∷ nd.b ∷ n ∷ m ∷ 0 ∷ 0 ∷ rest ∷ w)) (sym (items_then (code a.value.expr 0 []) [] (items_words (code b.value.expr 0 []) [])))
 
-        pub store_next : {b : Bool} {core₃ : List ℕ} → ok ≡ true → b ≡ same_ty (type_of 1) (type_of value) → b ≡ true → core₃ ≡ sets core₂ q (1 ∷ u ∷ v ∷ n ∷ m ∷ 0 ∷ 0 ∷ rest ∷ []) → Said (To.Next l count) core₃
-        store_next h w k c = decided (λ i e a b en em er. store_at i e a b h (ap (λ (u : Ty). same_ty u (type_of value)) (sym int_type) ∙ (sym w ∙ k)) (store_words i e a b en c) (en ∙ sym (items_many gs (locals_in text locals l) i a)) (em ∙ sym (items_many gs (locals_in text locals l) e b))
+        pub store_next : {core₃ : List ℕ} → same_ty int (meant value) ≡ true → core₃ ≡ sets core₂ q (1 ∷ nd.a ∷ nd.b ∷ n ∷ m ∷ 0 ∷ 0 ∷ rest ∷ []) → Said (Ok (scope_at l count)) core₃
+        store_next k c = decided (λ i e a b en em er. store_at i e a b k (store_words i e a b en c) (en ∙ sym (items_many gs (locals_in text locals l) i a)) (em ∙ sym (items_many gs (locals_in text locals l) e b))
             (omega (arith, er, expr_words_lem i [], expr_words_lem e [], items_many gs (locals_in text locals l) i a, items_many gs (locals_in text locals l) e b)))

@@ -58,9 +58,12 @@ unfoldable pub thing_at : List ℕ → ℕ → ℕ → Thing
 thing_at tree h v =
     pick (eqb (word tree h) 0) (an_array (record { offset = v; size = word tree (h + 3) })) (a_function (signature tree h v))
 
+-- the global of the header at h, with its offset or number
+abbrev pub global_from : List ℕ → List ℕ → ℕ → ℕ → Global
+global_from text tree h v = record { place = word tree (h + 1); name = part text (word tree (h + 1)) (word tree (h + 2)); thing = thing_at tree h v }
+
 unfoldable pub global_at : List ℕ → List ℕ → List ℕ → ℕ → Global
-global_at text tree ws i =
-    record { place = word tree (word ws (2 * i) + 1); name = part text (word tree (word ws (2 * i) + 1)) (word tree (word ws (2 * i) + 2)); thing = thing_at tree (word ws (2 * i)) (word ws (2 * i + 1)) }
+global_at text tree ws i = global_from text tree (word ws (2 * i)) (word ws (2 * i + 1))
 
 unfoldable pub globals_in : List ℕ → List ℕ → List ℕ → ℕ → List Global
 globals_in text tree ws zero = []

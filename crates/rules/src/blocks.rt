@@ -1,110 +1,72 @@
 // Blocks, statement by statement, and statements that have blocks. A block's locals end with it, and stay counted.
 ghost use Rattle.std.specs.Prelude.{◌≡◌, ◌+◌, ◌*◌, ◌≤◌, length, drop};
 ghost use Rattle.std.proofs.lemmas.List.Edits.{sets};
-ghost use Rattle.rules.specs.Tables.{result_of, locals_in, globals_in};
+ghost use Rattle.grammar.specs.Numbers.{number_of_statement};
+ghost use Rattle.rules.specs.Tables.{locals_in};
+ghost use Rattle.rules.specs.Values.{result_in, globals_of};
 ghost use Rattle.rules.specs.Post.{Room};
-ghost use Rattle.rules.specs.Statements.{Heads, Moves, BlockRoom, StmtRoom, Statement, Conditions, nest_words, Branches, Blocks, holds_blocks};
+ghost use Rattle.rules.specs.Statements.{Headed, Moves, BlockRoom, StmtRoom, Statement as StatesOne, Conditions, nest_words, Branches, Blocks, holds_blocks};
 
 use crate::expression::first_expression;
-use crate::head::{Head, header, header_at};
+use crate::head::{Head, header_of_blocks};
+use crate::program::Program;
 use crate::simple::simple;
-use crate::types::{BOOL, same_type};
-use crate::{Counted, Given, Spot, Step};
-use flat::statement;
-
-// The tree's kind of an `if` with no `else`; the others are those of the core.
-const WHEN: u32 = 8;
+use crate::{Broken, Scope, Spot};
+use flat::statement::Kind;
+use grammar::tree::{Statement, ValueType};
 
 // Whether a statement of this kind has blocks.
-fn holds_blocks(k: u32) -> bool
-    ensures { result ≡ holds_blocks k }
+fn holds_blocks(kind: Statement) -> bool
+    ensures { result ≡ holds_blocks (number_of_statement kind) }
 {
-    if k == statement::CHOOSE {
-        return true;
-    }
-    if k == statement::WHILE {
-        return true;
-    }
-    k == WHEN
+    matches!(kind, Statement::Choose | Statement::While | Statement::When)
 }
 
 // "conditions take bools": the condition of the statement whose header stands here.
 fn condition(
-    text: &[u8],
-    tree: &[u32],
-    globals: &[u32],
+    program: &Program,
     locals: &[u32],
     types: &mut [u32],
     starts: &mut [u32],
     core: &mut [u32],
     spot: Spot,
     head: Head,
-) -> Given
-    requires { Room tree.now spot.globals spot.visible types.old starts.old core.old (spot.tree + 8) (spot.core + 8) }
-    ensures { Conditions text.now (globals_in text.now tree.now globals.now spot.globals) (locals_in text.now locals.now spot.visible)
-        head.at head.first (drop (spot.tree + 8) tree.now) (spot.core + 8) core.old result core.new }
+) -> Result<(), Broken>
+    requires { Room program.now.tree.now spot.scope.visible types.old starts.old core.old (spot.tree + 8) (spot.core + 8) }
+    ensures { Conditions program.now.text.now (globals_of program.now) (locals_in program.now.text.now locals.now spot.scope.visible)
+        head.at head.first (drop (spot.tree + 8) program.now.tree.now) (spot.core + 8) core.old result core.new }
 {
-    let r = first_expression(text, tree, globals, locals, types, starts, core, spot, head);
-    match r {
-        Given::Type(ty) => {
-            if !same_type(BOOL, ty) {
-                return Given::Broken(head.at);
-            }
-            Given::Type(ty)
-        }
-        Given::Broken(b) => Given::Broken(b),
+    let ty = first_expression(program, locals, types, starts, core, spot, head)?;
+    if ty != ValueType::Bool {
+        return Err(Broken(head.at as usize));
     }
+    Ok(())
 }
 
 // The header of a statement with blocks: of `if`, its second word is how many words the first block has.
 fn nest(core: &mut [u32], q: usize, head: Head)
     requires { q + 8 ≤ length core.old }
-    ensures { core.new ≡ sets core.old q (nest_words head.kind head.size head.first head.body head.other head.rest) }
+    ensures { core.new ≡ sets core.old q (nest_words (number_of_statement head.kind) head.size head.first head.body head.other head.rest) }
 {
-    if head.kind == statement::WHILE {
-        header(
-            core,
-            q,
-            statement::WHILE,
-            0,
-            0,
-            head.first,
-            0,
-            head.body,
-            head.other,
-            head.rest,
-        );
-        return;
+    match head.kind {
+        Statement::While => header_of_blocks(core, q, Kind::While, 0, head),
+        _ => header_of_blocks(core, q, Kind::Choose, head.size, head),
     }
-    header(
-        core,
-        q,
-        statement::CHOOSE,
-        head.size,
-        0,
-        head.first,
-        0,
-        head.body,
-        head.other,
-        head.rest,
-    );
 }
 
 // The body of the statement whose header stands here, then its other block, which is empty unless there is an `else`.
 #[cycle(block_branches_stmt)]
 fn branches(
-    text: &[u8],
-    tree: &[u32],
-    globals: &[u32],
+    program: &Program,
     locals: &mut [u32],
     types: &mut [u32],
     starts: &mut [u32],
     core: &mut [u32],
     spot: Spot,
     head: Head,
-) -> Counted
-    requires { StmtRoom tree.now spot.globals locals.old spot.visible spot.count types.old starts.old core.old spot.tree spot.core head.rest × (4 * head.first + head.size ≤ head.rest) }
-    ensures { Branches text.now (globals_in text.now tree.now globals.now spot.globals) locals.old spot.visible spot.count (result_of spot.result) tree.now spot.tree spot.core
+) -> Result<u32, Broken>
+    requires { StmtRoom program.now.tree.now locals.old spot.scope.visible spot.scope.count types.old starts.old core.old spot.tree spot.core head.rest × (4 * head.first + head.size ≤ head.rest) }
+    ensures { Branches program.now.text.now (globals_of program.now) locals.old spot.scope.visible spot.scope.count (result_in spot.result) program.now.tree.now spot.tree spot.core
         (8 + 4 * head.first) head.body (8 + 4 * head.first + head.size) head.other core.old result locals.new core.new }
 {
     let a = 8 + 4 * head.first as usize;
@@ -112,98 +74,77 @@ fn branches(
     body.tree += a;
     body.core += a;
     let n = head.body;
-    let r = block(text, tree, globals, locals, types, starts, core, body, n);
-    match r {
-        Counted::Count(count) => {
-            let b = a + head.size as usize;
-            let mut other = spot;
-            other.tree += b;
-            other.core += b;
-            other.count = count;
-            let m = head.other;
-            block(text, tree, globals, locals, types, starts, core, other, m)
-        }
-        Counted::Broken(at) => Counted::Broken(at),
-    }
+    let count = block(program, locals, types, starts, core, body, n)?;
+    let b = a + head.size as usize;
+    let mut other = spot;
+    other.tree += b;
+    other.core += b;
+    other.scope.count = count;
+    let m = head.other;
+    block(program, locals, types, starts, core, other, m)
 }
 
 // A statement. If it has blocks, its condition comes first, then both, then its header.
 #[cycle(block_branches_stmt)]
 fn stmt(
-    text: &[u8],
-    tree: &[u32],
-    globals: &[u32],
+    program: &Program,
     locals: &mut [u32],
     types: &mut [u32],
     starts: &mut [u32],
     core: &mut [u32],
     spot: Spot,
     head: Head,
-) -> Step
-    requires { StmtRoom tree.now spot.globals locals.old spot.visible spot.count types.old starts.old core.old spot.tree spot.core head.rest × Heads (drop spot.tree tree.now) head.kind head.at head.size head.first head.second head.body head.other head.rest }
-    ensures statement { Statement text.now (globals_in text.now tree.now globals.now spot.globals) locals.old spot.visible spot.count (result_of spot.result)
-        (drop spot.tree tree.now) spot.core core.old result locals.new core.new }
-    ensures moves { Moves spot.visible spot.count locals.old result locals.new }
+) -> Result<Scope, Broken>
+    requires { StmtRoom program.now.tree.now locals.old spot.scope.visible spot.scope.count types.old starts.old core.old spot.tree spot.core head.rest × Headed (drop spot.tree program.now.tree.now) head }
+    ensures statement { StatesOne program.now.text.now (globals_of program.now) locals.old spot.scope.visible spot.scope.count (result_in spot.result)
+        (drop spot.tree program.now.tree.now) spot.core core.old result locals.new core.new }
+    ensures moves { Moves spot.scope.visible spot.scope.count locals.old result locals.new }
 {
     if !holds_blocks(head.kind) {
-        return simple(text, tree, globals, locals, types, starts, core, spot, head);
+        return simple(program, locals, types, starts, core, spot, head);
     }
     if (head.rest as usize) < 4 * head.first as usize + head.size as usize {
-        return Step::Broken(0);
+        return Err(Broken(0));
     }
-    let c = condition(text, tree, globals, locals, types, starts, core, spot, head);
-    if let Given::Broken(at) = c {
-        return Step::Broken(at);
-    }
-    let r = branches(text, tree, globals, locals, types, starts, core, spot, head);
-    match r {
-        Counted::Count(n) => {
-            nest(core, spot.core, head);
-            Step::Next(spot.visible, n)
-        }
-        Counted::Broken(at) => Step::Broken(at),
-    }
+    condition(program, locals, types, starts, core, spot, head)?;
+    let count = branches(program, locals, types, starts, core, spot, head)?;
+    nest(core, spot.core, head);
+    Ok(Scope {
+        visible: spot.scope.visible,
+        count,
+    })
 }
 
 // The n statements from here on.
 #[cycle(block_branches_stmt)]
 pub fn block(
-    text: &[u8],
-    tree: &[u32],
-    globals: &[u32],
+    program: &Program,
     locals: &mut [u32],
     types: &mut [u32],
     starts: &mut [u32],
     core: &mut [u32],
     spot: Spot,
     n: u32,
-) -> Counted
-    requires { BlockRoom tree.now spot.globals locals.old spot.visible spot.count types.old starts.old core.old spot.tree spot.core }
-    ensures { Blocks text.now (globals_in text.now tree.now globals.now spot.globals) locals.old spot.visible spot.count (result_of spot.result)
-        n (drop spot.tree tree.now) spot.core core.old result locals.new core.new }
+) -> Result<u32, Broken>
+    requires { BlockRoom program.now.tree.now locals.old spot.scope.visible spot.scope.count types.old starts.old core.old spot.tree spot.core }
+    ensures { Blocks program.now.text.now (globals_of program.now) locals.old spot.scope.visible spot.scope.count (result_in spot.result)
+        n (drop spot.tree program.now.tree.now) spot.core core.old result locals.new core.new }
 {
     let mut here = spot;
-    let mut i: u32 = 0;
-    while i < n {
-        if tree.len() < here.tree + 8 {
-            return Counted::Broken(0);
+    for _ in 0..n {
+        if program.tree.len() < here.tree + 8 {
+            return Err(Broken(0));
         }
-        let head = header_at(tree, here.tree);
+        let Some(head) = Head::read(program.tree, here.tree) else {
+            return Err(Broken(0));
+        };
         let size = 8 + head.rest as usize;
-        if tree.len() < here.tree + size {
-            return Counted::Broken(0);
+        if program.tree.len() < here.tree + size {
+            return Err(Broken(0));
         }
-        let r = stmt(text, tree, globals, locals, types, starts, core, here, head);
-        match r {
-            Step::Next(visible, count) => {
-                here.visible = visible;
-                here.count = count;
-            }
-            Step::Broken(b) => return Counted::Broken(b),
-        }
+        here.scope = stmt(program, locals, types, starts, core, here, head)?;
         here.tree += size;
         here.core += size;
-        i += 1;
     }
-    Counted::Count(here.count)
+    Ok(here.scope.count)
 }

@@ -1,22 +1,21 @@
 // "its block *ends in return*: its last statement is a return, or an `if` with `else` both of whose blocks end in return"
 ghost use Rattle.std.specs.Prelude.{◌+◌, ◌≤◌, length, drop};
-ghost use Rattle.rules.specs.Post.{most_places, most_words};
-ghost use Rattle.rules.specs.Statements.{Heads, Returns, Ends};
+ghost use Rattle.rules.specs.Bounds.{most_places, most_words};
+ghost use Rattle.rules.specs.Statements.{Headed, Returns, Ends};
 
-use crate::head::{Head, header_at};
-use flat::statement;
+use crate::head::Head;
+use grammar::tree::Statement;
 
 // Whether the statement at p is a return.
 #[cycle(ends_in_return_returns)]
 fn returns(tree: &[u32], p: usize, head: Head) -> bool
-    requires { (length tree.now ≤ most_words) × (p + 8 + head.rest ≤ length tree.now) × Heads (drop p tree.now) head.kind head.at head.size head.first head.second head.body head.other head.rest }
+    requires { (length tree.now ≤ most_words) × (p + 8 + head.rest ≤ length tree.now) × Headed (drop p tree.now) head }
     ensures { Returns (drop p tree.now) result }
 {
-    let k = head.kind;
-    match k {
-        statement::LEAVE => true,
-        statement::GIVE => true,
-        statement::CHOOSE => {
+    match head.kind {
+        Statement::Leave => true,
+        Statement::Give => true,
+        Statement::Choose => {
             let a = 8 + 4 * head.first as usize;
             let b = a + head.size as usize;
             if 8 + (head.rest as usize) < b {
@@ -39,19 +38,19 @@ pub fn ends_in_return(tree: &[u32], p: usize, n: u32) -> bool
 {
     let mut at = p;
     let mut ends = false;
-    let mut i: u32 = 0;
-    while i < n {
+    for _ in 0..n {
         if tree.len() < at + 8 {
             return false;
         }
-        let head = header_at(tree, at);
+        let Some(head) = Head::read(tree, at) else {
+            return false;
+        };
         let size = 8 + head.rest as usize;
         if tree.len() < at + size {
             return false;
         }
         ends = returns(tree, at, head);
         at += size;
-        i += 1;
     }
     ends
 }

@@ -1,16 +1,19 @@
 // Headers of statements: eight words each, in the tree and in the core.
 ghost use Rattle.std.specs.Prelude.{◌≡◌, [], ◌∷◌, ◌+◌, ◌≤◌, length, drop};
 ghost use Rattle.std.proofs.lemmas.List.Edits.{sets};
-ghost use Rattle.rules.specs.Post.{most_places};
-ghost use Rattle.rules.specs.Statements.{Heads};
+ghost use Rattle.rules.specs.Bounds.{most_places};
+ghost use Rattle.flat.specs.Numbers.{statement_number};
+ghost use Rattle.rules.specs.Statements.{HeadCase};
 
-use crate::names::word;
+use flat::statement::Kind;
+use grammar::tree::Statement;
+use word::lists::word;
 
 // A header in the tree: its kind, the place where the statement is reported, its name's length or how many words its first block has, how many
 // items its first and its second expression have, how many statements its body and its other block, and how many words follow the header.
 #[derive(Clone, Copy)]
 pub struct Head {
-    pub kind: u32,
+    pub kind: Statement,
     pub at: u32,
     pub size: u32,
     pub first: u32,
@@ -20,72 +23,109 @@ pub struct Head {
     pub rest: u32,
 }
 
-// The header at p.
-pub fn header_at(tree: &[u32], p: usize) -> Head
-    requires { p ≤ most_places }
-    ensures { Heads (drop p tree.now) result.kind result.at result.size result.first result.second result.body result.other result.rest }
-{
-    let kind = word(tree, p);
-    let at = word(tree, p + 1);
-    let size = word(tree, p + 2);
-    let first = word(tree, p + 3);
-    let second = word(tree, p + 4);
-    let body = word(tree, p + 5);
-    let other = word(tree, p + 6);
-    let rest = word(tree, p + 7);
-    Head {
-        kind,
-        at,
-        size,
-        first,
-        second,
-        body,
-        other,
-        rest,
+impl Head {
+    // The header at p, if a statement's kind stands there.
+    pub fn read(tree: &[u32], p: usize) -> Option<Head>
+        requires { p ≤ most_places }
+        ensures { HeadCase (drop p tree.now) result }
+    {
+        let Ok(kind) = Statement::try_from(word(tree, p)) else {
+            return None;
+        };
+        Some(Head {
+            kind,
+            at: word(tree, p + 1),
+            size: word(tree, p + 2),
+            first: word(tree, p + 3),
+            second: word(tree, p + 4),
+            body: word(tree, p + 5),
+            other: word(tree, p + 6),
+            rest: word(tree, p + 7),
+        })
     }
 }
 
-// The header of a statement of the core: its kind, two words that the kind has a use for, then as in the tree.
-pub fn header(
-    core: &mut [u32],
-    q: usize,
-    k: u32,
-    a: u32,
-    b: u32,
-    n: u32,
-    m: u32,
-    s: u32,
-    t: u32,
-    rest: u32,
-)
-    requires { q + 8 ≤ length core.old }
-    ensures { core.new ≡ sets core.old q (k ∷ a ∷ b ∷ n ∷ m ∷ s ∷ t ∷ rest ∷ []) }
-{
-    core[q] = k;
-    core[q + 1] = a;
-    core[q + 2] = b;
-    core[q + 3] = n;
-    core[q + 4] = m;
-    core[q + 5] = s;
-    core[q + 6] = t;
-    core[q + 7] = rest;
+// A header in the core: the statement's kind, two words that the kind has a use for, then as in the tree.
+#[derive(Clone, Copy)]
+pub struct CoreHead {
+    pub kind: Kind,
+    pub a: u32,
+    pub b: u32,
+    pub first: u32,
+    pub second: u32,
+    pub body: u32,
+    pub other: u32,
+    pub rest: u32,
 }
 
-// The header of a statement with one expression and no block.
-pub fn header_of_one(core: &mut [u32], q: usize, k: u32, a: u32, head: Head)
+impl CoreHead {
+    // The header stands at q. Store by store: as a slice the eight words take a line each too, and that its copy is `sets` would be a second proof of
+    // what `grammar::words::put`, private there, promises.
+    pub fn write(self, core: &mut [u32], q: usize)
+        requires { q + 8 ≤ length core.old }
+        ensures { core.new ≡ sets core.old q (statement_number self.kind ∷ self.a ∷ self.b ∷ self.first ∷ self.second ∷ self.body ∷ self.other ∷ self.rest ∷ []) }
+    {
+        core[q] = self.kind as u32;
+        core[q + 1] = self.a;
+        core[q + 2] = self.b;
+        core[q + 3] = self.first;
+        core[q + 4] = self.second;
+        core[q + 5] = self.body;
+        core[q + 6] = self.other;
+        core[q + 7] = self.rest;
+    }
+}
+
+// The header of a statement with one expression and no block. What is built, its contract says: this and those of the next kinds differ in just that.
+pub fn header_of_one(core: &mut [u32], q: usize, kind: Kind, a: u32, head: Head)
     requires { q + 8 ≤ length core.old }
-    ensures { core.new ≡ sets core.old q (k ∷ a ∷ 0 ∷ head.first ∷ 0 ∷ 0 ∷ 0 ∷ head.rest ∷ []) }
+    ensures { core.new ≡ sets core.old q (statement_number kind ∷ a ∷ 0 ∷ head.first ∷ 0 ∷ 0 ∷ 0 ∷ head.rest ∷ []) }
 {
-    let n = head.first;
-    header(core, q, k, a, 0, n, 0, 0, 0, head.rest);
+    let header = CoreHead {
+        kind,
+        a,
+        b: 0,
+        first: head.first,
+        second: 0,
+        body: 0,
+        other: 0,
+        rest: head.rest,
+    };
+    header.write(core, q);
 }
 
 // The header of a statement with two.
-pub fn header_of_two(core: &mut [u32], q: usize, k: u32, a: u32, b: u32, head: Head)
+pub fn header_of_two(core: &mut [u32], q: usize, kind: Kind, a: u32, b: u32, head: Head)
     requires { q + 8 ≤ length core.old }
-    ensures { core.new ≡ sets core.old q (k ∷ a ∷ b ∷ head.first ∷ head.second ∷ 0 ∷ 0 ∷ head.rest ∷ []) }
+    ensures { core.new ≡ sets core.old q (statement_number kind ∷ a ∷ b ∷ head.first ∷ head.second ∷ 0 ∷ 0 ∷ head.rest ∷ []) }
 {
-    let n = head.first;
-    let m = head.second;
-    header(core, q, k, a, b, n, m, 0, 0, head.rest);
+    let header = CoreHead {
+        kind,
+        a,
+        b,
+        first: head.first,
+        second: head.second,
+        body: 0,
+        other: 0,
+        rest: head.rest,
+    };
+    header.write(core, q);
+}
+
+// The header of a statement with one expression and blocks.
+pub fn header_of_blocks(core: &mut [u32], q: usize, kind: Kind, a: u32, head: Head)
+    requires { q + 8 ≤ length core.old }
+    ensures { core.new ≡ sets core.old q (statement_number kind ∷ a ∷ 0 ∷ head.first ∷ 0 ∷ head.body ∷ head.other ∷ head.rest ∷ []) }
+{
+    let header = CoreHead {
+        kind,
+        a,
+        b: 0,
+        first: head.first,
+        second: 0,
+        body: head.body,
+        other: head.other,
+        rest: head.rest,
+    };
+    header.write(core, q);
 }

@@ -1,8 +1,11 @@
 // Document 01 §4: from the flat tree of a text to its flat core program, in working room that the caller lends, or the place of a broken rule.
+// The rooms (locals, types, starts, core) stay parameters: a clause speaks of what the core becomes, and a struct of them would owe in each that the others are
+// the same ones. What is asked of rooms and places ties several together, so that no one type holds it.
 #![tactic(auto)]
 
-pub mod names; // names in the text, and what they stand for
 pub mod types; // types, alone and in rows
+pub mod names; // names in the text, and the locals that they stand for
+pub mod program; // what is read and never written, and the arrays and functions that names stand for
 pub mod operands; // the stack of operands: a type and a start each
 pub mod nodes; // what an item of the tree becomes
 pub mod calls; // calls and their arguments
@@ -16,42 +19,25 @@ pub mod simple; // statements with no block
 pub mod blocks; // blocks, and statements that have some
 pub mod endings; // whether a block ends in return
 
-// Where an expression, a statement or a block is read: the words of the tree and of the core from which it stands on; and document 01's scope there:
-// how many globals and how many visible locals the tables have, how many parameters and lets there were, and the function's result type.
+use grammar::tree::ValueType;
+
+// Document 01's scope: how many locals of the table are visible, and how many parameters and lets there were.
+#[derive(Clone, Copy)]
+pub struct Scope {
+    pub visible: usize,
+    pub count: u32,
+}
+
+// Where an expression, a statement or a block is read: the words of the tree and of the core from which it stands on, its scope, and the result type
+// of its function.
 #[derive(Clone, Copy)]
 pub struct Spot {
     pub tree: usize,
     pub core: usize,
-    pub globals: usize,
-    pub visible: usize,
-    pub count: u32,
-    pub result: u32,
+    pub scope: Scope,
+    pub result: Option<ValueType>,
 }
 
-// What a part of the tree gives: a number, or the place of a broken rule.
-#[derive(Clone, Copy)]
-pub enum Out {
-    Done(usize),
-    Broken(u32),
-}
-
-// What an expression gives: its type, or the place of a broken rule.
-#[derive(Clone, Copy)]
-pub enum Given {
-    Type(u32),
-    Broken(u32),
-}
-
-// What a statement gives: how many locals are visible after it, and how many parameters and lets there were; or the place of a broken rule.
-#[derive(Clone, Copy)]
-pub enum Step {
-    Next(usize, u32),
-    Broken(u32),
-}
-
-// What a block gives: how many parameters and lets there were; or the place of a broken rule.
-#[derive(Clone, Copy)]
-pub enum Counted {
-    Count(u32),
-    Broken(u32),
-}
+// The place of a broken rule; 0 where the words are no tree's, of which the contracts say nothing else.
+#[derive(Clone, Copy, Debug, PartialEq, Eq)]
+pub struct Broken(pub usize);

@@ -1,13 +1,16 @@
 // Names are parts of the text. What a name stands for is looked up from the last entry down; document 01 §4 keeps the tables short.
-ghost use Rattle.std.specs.Prelude.{◌≡◌, ◌≤◌, get_or};
+ghost use Rattle.std.specs.Prelude.{◌≡◌, List, ℕ, ◌+◌, ◌*◌, ◌≤◌, get_or, length};
 ghost use Rattle.language.specs.Tokens.{same};
-ghost use Rattle.rules.specs.Tables.{part};
-ghost use Rattle.rules.specs.Post.{FindsLocal, FindsGlobal, most_entries};
+ghost use Rattle.rules.specs.Bounds.{most_entries};
+ghost use Rattle.rules.specs.Tables.{part, local_at};
+ghost use Rattle.rules.specs.Values.{known, FindsLocal, Enters};
 
-// Words of a local's entry, and which is what.
+use crate::types::value_type;
+use grammar::tree::ValueType;
+use word::lists::{item_or, word};
+
+// Words of a local's entry, and which is what: the table is words that the caller lends, since no part has a heap.
 pub const LOCAL_WORDS: usize = 4;
-
-pub const LOCAL_PLACE: usize = 0;
 
 pub const LOCAL_LENGTH: usize = 1;
 
@@ -15,90 +18,86 @@ pub const LOCAL_TYPE: usize = 2;
 
 pub const LOCAL_SLOT: usize = 3;
 
-// Words of a global's entry: its header's place in the tree, its array's offset or its function's number.
-pub const GLOBAL_WORDS: usize = 2;
-
-pub const GLOBAL_HEADER: usize = 0;
-
-pub const GLOBAL_VALUE: usize = 1;
-
-// Words of a header in the tree: its name's place and length.
-pub const NAME_PLACE: usize = 1;
-
-pub const NAME_LENGTH: usize = 2;
-
 // Byte p of the text; 0 past its end.
 pub fn byte(text: &[u8], p: usize) -> u8
     ensures { result ≡ get_or text.now p 0 }
 {
-    if p < text.len() { text[p] } else { 0 }
+    item_or(text, p, 0)
 }
 
-// Word i; 0 past the end.
-pub fn word(ws: &[u32], i: usize) -> u32
-    ensures { result ≡ get_or ws.now i 0 }
-{
-    if i < ws.len() { ws[i] } else { 0 }
+// A name: its bytes' place in the text, and how many there are.
+#[derive(Clone, Copy)]
+pub struct Name {
+    pub place: u32,
+    pub length: u32,
 }
 
-// Whether the n bytes from a on and the m bytes from b on are one name.
-pub fn same_name(text: &[u8], a: u32, n: u32, b: u32, m: u32) -> bool
-    ensures { result ≡ same (part text.now a n) (part text.now b m) }
+// Whether the bytes of two names are the same. No slices are compared, since a name of a tree that no text has may reach past the text's end.
+pub fn same_name(text: &[u8], x: Name, y: Name) -> bool
+    ensures { result ≡ same (part text.now x.place x.length) (part text.now y.place y.length) }
 {
-    if n != m {
+    if x.length != y.length {
         return false;
     }
-    let mut i: u32 = 0;
-    while i < n {
-        let x = byte(text, a as usize + i as usize);
-        let y = byte(text, b as usize + i as usize);
-        if x != y {
+    for i in 0..x.length {
+        let b = byte(text, x.place as usize + i as usize);
+        let c = byte(text, y.place as usize + i as usize);
+        if b != c {
             return false;
         }
-        i += 1;
     }
     true
 }
 
-// The entry of the local whose name is the n bytes from a on, counted from 1; 0 where there is none.
-pub fn find_local(text: &[u8], locals: &[u32], count: usize, a: u32, n: u32) -> usize
-    requires { count ≤ most_entries }
-    ensures { FindsLocal text.now locals.now count (part text.now a n) result }
-{
-    let mut i = count;
-    while 0 < i {
-        let at = LOCAL_WORDS * (i - 1);
-        let p = word(locals, at);
-        let l = word(locals, at + LOCAL_LENGTH);
-        if same_name(text, p, l, a, n) {
-            return i;
-        }
-        i -= 1;
-    }
-    0
+// A visible local. The table of them is four words for each.
+#[derive(Clone, Copy)]
+pub struct Local {
+    pub name: Name,
+    pub ty: ValueType,
+    pub slot: u32,
 }
 
-// The entry of the global whose name is the n bytes from a on, counted from 1; 0 where there is none.
-pub fn find_global(
-    text: &[u8],
-    tree: &[u32],
-    globals: &[u32],
-    count: usize,
-    a: u32,
-    n: u32,
-) -> usize
-    requires { count ≤ most_entries }
-    ensures { FindsGlobal text.now tree.now globals.now count (part text.now a n) result }
-{
-    let mut i = count;
-    while 0 < i {
-        let h = word(globals, GLOBAL_WORDS * (i - 1)) as usize;
-        let p = word(tree, h + NAME_PLACE);
-        let l = word(tree, h + NAME_LENGTH);
-        if same_name(text, p, l, a, n) {
-            return i;
+impl Local {
+    // Entry i of the table.
+    pub fn read(locals: &[u32], i: usize) -> Local
+        requires { i ≤ most_entries }
+        ensures { (text : List ℕ) → known text result ≡ local_at text locals.now i }
+    {
+        let at = LOCAL_WORDS * i;
+        let place = word(locals, at);
+        let length = word(locals, at + LOCAL_LENGTH);
+        let ty = value_type(word(locals, at + LOCAL_TYPE));
+        let slot = word(locals, at + LOCAL_SLOT);
+        Local {
+            name: Name { place, length },
+            ty,
+            slot,
         }
-        i -= 1;
     }
-    0
+
+    // The local is entry i of the table. Store by store, since a slice would drop the words' names by which `read` reads them.
+    pub fn enter(self, locals: &mut [u32], i: usize)
+        requires { (i ≤ most_entries) × (4 * i + 4 ≤ length locals.old) }
+        ensures { Enters locals.old i self locals.new }
+    {
+        let at = LOCAL_WORDS * i;
+        locals[at] = self.name.place;
+        locals[at + LOCAL_LENGTH] = self.name.length;
+        locals[at + LOCAL_TYPE] = self.ty as u32;
+        locals[at + LOCAL_SLOT] = self.slot;
+    }
+}
+
+// The visible local of this name.
+pub fn find_local(text: &[u8], locals: &[u32], count: usize, name: Name) -> Option<Local>
+    requires { count ≤ most_entries }
+    ensures { FindsLocal text.now locals.now count (part text.now name.place name.length) result }
+{
+    for i in (0..count).rev() {
+        let local = Local::read(locals, i);
+        if same_name(text, local.name, name) {
+            return Some(local);
+        }
+    }
+    None
 }

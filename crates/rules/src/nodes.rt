@@ -1,31 +1,24 @@
 // What an item of the tree becomes, by its kind: rules of document 01 §4 for names, operators and calls.
 ghost use Rattle.std.specs.Prelude.{◌≡◌, ℕ, ◌≤◌, eqb, ltb};
-ghost use Rattle.rules.specs.Tables.{type_of, locals_in, globals_in};
+ghost use Rattle.flat.specs.Numbers.{kind_number};
+ghost use Rattle.rules.specs.Bounds.{most_entries, most_places};
+ghost use Rattle.rules.specs.Tables.{locals_in};
+ghost use Rattle.rules.specs.Values.{meant, held, node_in, made, globals_of};
 ghost use Rattle.rules.specs.Scan.{leaf as leaf_of, name_node, element_node, unary_node, strict_node, mark_node, join_node};
-ghost use Rattle.rules.specs.Post.{made, Reads, most_entries, most_places};
-ghost use Rattle.std.proofs.Math.Option.{some, none};
+ghost use Rattle.rules.specs.Post.{Reads};
 ghost use Rattle.word.specs.Choice.{pick};
 ghost use Rattle.language.specs.Tree.{int, bool};
 
-use crate::names::{
-    GLOBAL_VALUE, GLOBAL_WORDS, LOCAL_SLOT, LOCAL_TYPE, LOCAL_WORDS, find_global, find_local, word,
-};
-use crate::types::{BOOL, INT, same_type};
-use flat::item;
+use crate::names::{Name, find_local};
+use crate::operands::Operand;
+use crate::program::{HEADER_SIZE, Program, is_array};
+use flat::item::Kind;
+use flat::operator::{Strict, Unary};
+use grammar::tree::ValueType;
+use word::lists::word;
 
-// Which word of a global's header is what, and what makes it an array.
-pub const HEADER_KIND: usize = 0;
-
-pub const HEADER_SIZE: usize = 3;
-
-pub const ARRAY: u32 = 0;
-
-// The first strict operators take two of one type; more of them give a bool.
-const TYPED: u32 = 2;
-
-const TESTS: u32 = 6;
-
-// An item of the tree: its kind, its place, two words that the kind has a use for, and where the core's item goes, counted from the expression's first.
+// An item of the tree: its kind's number, its place, two words that the kind has a use for, and where the core's item goes, counted from the
+// expression's first. `node` reads the kind back: where the number is no kind's, the place is what is reported.
 #[derive(Clone, Copy)]
 pub struct TreeItem {
     pub kind: u32,
@@ -40,57 +33,33 @@ pub fn item_at(tree: &[u32], p: usize, here: u32) -> TreeItem
     requires { p ≤ most_places }
     ensures { Reads tree.now p result.kind result.place result.a result.b × (result.here ≡ here) }
 {
-    let kind = word(tree, p);
-    let place = word(tree, p + 1);
-    let a = word(tree, p + 2);
-    let b = word(tree, p + 3);
     TreeItem {
-        kind,
-        place,
-        a,
-        b,
+        kind: word(tree, p),
+        place: word(tree, p + 1),
+        a: word(tree, p + 2),
+        b: word(tree, p + 3),
         here,
     }
 }
 
-// If the rules are kept: how many operands it takes, the type and start of the one that it gives, how many nodes begin there, and its item.
+// What an item becomes: how many operands it takes, the one that it gives, how many nodes begin there, and the core's item.
 #[derive(Clone, Copy)]
 pub struct Made {
-    pub ok: bool,
     pub takes: u32,
-    pub ty: u32,
-    pub start: u32,
+    pub gives: Operand,
     pub begins: u32,
-    pub kind: u32,
+    pub kind: Kind,
     pub a: u32,
     pub b: u32,
 }
 
-// A rule is broken.
-pub fn broken() -> Made
-    ensures { made result.ok result.takes result.ty result.start result.begins result.kind result.a result.b ≡ none }
-{
-    Made {
-        ok: false,
-        takes: 0,
-        ty: 0,
-        start: 0,
-        begins: 0,
-        kind: 0,
-        a: 0,
-        b: 0,
-    }
-}
-
 // A number, a truth or a local.
-pub fn leaf(ty: u32, here: u32, kind: u32, a: u32) -> Made
-    ensures { made result.ok result.takes result.ty result.start result.begins result.kind result.a result.b ≡ some (leaf_of (type_of ty) here kind a) }
+pub fn leaf(ty: ValueType, here: u32, kind: Kind, a: u32) -> Made
+    ensures { node_in result ≡ leaf_of (meant ty) here (kind_number kind) a }
 {
     Made {
-        ok: true,
         takes: 0,
-        ty,
-        start: here,
+        gives: Operand { ty, start: here },
         begins: 1,
         kind,
         a,
@@ -99,135 +68,115 @@ pub fn leaf(ty: u32, here: u32, kind: u32, a: u32) -> Made
 }
 
 // A name: a visible local.
-pub fn name(text: &[u8], locals: &[u32], count: usize, p: u32, a: u32, here: u32) -> Made
+pub fn name(text: &[u8], locals: &[u32], count: usize, name: Name, here: u32) -> Option<Made>
     requires { count ≤ most_entries }
-    ensures { made result.ok result.takes result.ty result.start result.begins result.kind result.a result.b ≡ name_node text.now (locals_in text.now locals.now count) p a here }
+    ensures { made result ≡ name_node text.now (locals_in text.now locals.now count) name.place name.length here }
 {
-    let i = find_local(text, locals, count, p, a);
-    if i == 0 {
-        return broken();
-    }
-    let at = LOCAL_WORDS * (i - 1);
-    let ty = word(locals, at + LOCAL_TYPE);
-    let slot = word(locals, at + LOCAL_SLOT);
-    leaf(ty, here, item::LOCAL, slot)
+    let local = find_local(text, locals, count, name)?;
+    Some(leaf(local.ty, here, Kind::Local, local.slot))
 }
 
-// An element of an array, at an index of this type.
-pub fn element(
-    text: &[u8],
-    tree: &[u32],
-    globals: &[u32],
-    count: usize,
-    p: u32,
-    a: u32,
-    ty: u32,
-    start: u32,
-) -> Made
-    requires { count ≤ most_entries }
-    ensures { made result.ok result.takes result.ty result.start result.begins result.kind result.a result.b ≡
-        element_node text.now (globals_in text.now tree.now globals.now count) p a (record { type = type_of ty; start = start }) }
+// An element of an array, at an index.
+pub fn element(program: &Program, name: Name, index: Operand) -> Option<Made>
+    ensures { made result ≡ element_node program.now.text.now (globals_of program.now) name.place name.length (held index) }
 {
-    let i = find_global(text, tree, globals, count, p, a);
-    if i == 0 {
-        return broken();
+    let array = program.find_global(name)?;
+    let header = array.header as usize;
+    if !is_array(program.tree, header) {
+        return None;
     }
-    let at = GLOBAL_WORDS * (i - 1);
-    let header = word(globals, at) as usize;
-    if word(tree, header) != ARRAY {
-        return broken();
+    if index.ty != ValueType::Int {
+        return None;
     }
-    if !same_type(INT, ty) {
-        return broken();
-    }
-    let offset = word(globals, at + GLOBAL_VALUE);
-    let size = word(tree, header + HEADER_SIZE);
-    Made {
-        ok: true,
+    let size = word(program.tree, header + HEADER_SIZE);
+    Some(Made {
         takes: 1,
-        ty: INT,
-        start,
+        gives: Operand {
+            ty: ValueType::Int,
+            start: index.start,
+        },
         begins: 1,
-        kind: item::ELEMENT,
-        a: offset,
+        kind: Kind::Element,
+        a: array.value,
         b: size,
+    })
+}
+
+// What an operator with one side takes and gives: `-` an int, `!` a bool, as a number that no operator has.
+fn unary_type(a: u32) -> ValueType
+    ensures { meant result ≡ pick (eqb a 0) int bool }
+{
+    match Unary::try_from(a) {
+        Ok(Unary::Negate) => ValueType::Int,
+        _ => ValueType::Bool,
     }
 }
 
-// What an operator with one side takes and gives: the first an int, the other a bool.
-fn unary_type(a: u32) -> u32
-    ensures { type_of result ≡ pick (eqb a 0) int bool }
+// An operator with one side, by its number, of which `unary_node` speaks and which is the core's item's.
+pub fn unary(a: u32, operand: Operand) -> Option<Made>
+    ensures { made result ≡ unary_node a (held operand) }
 {
-    if a == 0 { INT } else { BOOL }
-}
-
-// An operator with one side.
-pub fn unary(a: u32, ty: u32, start: u32) -> Made
-    ensures { made result.ok result.takes result.ty result.start result.begins result.kind result.a result.b ≡ unary_node a (record { type = type_of ty; start = start }) }
-{
-    let wanted = unary_type(a);
-    if !same_type(wanted, ty) {
-        return broken();
+    let ty = unary_type(a);
+    if operand.ty != ty {
+        return None;
     }
-    Made {
-        ok: true,
+    Some(Made {
         takes: 1,
-        ty: wanted,
-        start,
+        gives: Operand {
+            ty,
+            start: operand.start,
+        },
         begins: 1,
-        kind: item::UNARY,
+        kind: Kind::Unary,
         a,
         b: 0,
+    })
+}
+
+// What an operator that evaluates both sides takes, whose left side is of this type, and what it gives. A number that no operator has takes and gives
+// ints.
+fn strict_types(a: u32, left: ValueType) -> (ValueType, ValueType)
+    ensures takes { meant result.0 ≡ pick (ltb a 2) (meant left) int }
+    ensures gives { meant result.1 ≡ pick (ltb a 6) bool int }
+{
+    match Strict::try_from(a) {
+        Ok(Strict::Eq | Strict::Ne) => (left, ValueType::Bool),
+        Ok(Strict::Lt | Strict::Le | Strict::Gt | Strict::Ge) => (ValueType::Int, ValueType::Bool),
+        _ => (ValueType::Int, ValueType::Int),
     }
 }
 
-// What an operator that evaluates both sides takes, whose left side is of this type.
-fn strict_takes(a: u32, left: u32) -> u32
-    ensures { type_of result ≡ pick (ltb a 2) (type_of left) int }
+// An operator that evaluates both sides, by its number: `strict_node` speaks of each number and puts the number itself into the core's item.
+pub fn strict(a: u32, left: Operand, right: Operand) -> Option<Made>
+    ensures { (j : ℕ) → made result ≡ strict_node a (held left) (record { type = meant right.ty; start = j }) }
 {
-    if a < TYPED { left } else { INT }
-}
-
-// What it gives.
-fn strict_gives(a: u32) -> u32
-    ensures { type_of result ≡ pick (ltb a 6) bool int }
-{
-    if a < TESTS { BOOL } else { INT }
-}
-
-// An operator that evaluates both sides.
-pub fn strict(a: u32, left: u32, start: u32, right: u32) -> Made
-    ensures { (j : ℕ) → made result.ok result.takes result.ty result.start result.begins result.kind result.a result.b ≡ strict_node a (record { type = type_of left; start = start }) (record { type = type_of right; start = j }) }
-{
-    let wanted = strict_takes(a, left);
-    let ty = strict_gives(a);
-    if !same_type(wanted, left) {
-        return broken();
+    let (wanted, ty) = strict_types(a, left.ty);
+    if left.ty != wanted {
+        return None;
     }
-    if !same_type(wanted, right) {
-        return broken();
+    if right.ty != wanted {
+        return None;
     }
-    Made {
-        ok: true,
+    Some(Made {
         takes: 2,
-        ty,
-        start,
+        gives: Operand {
+            ty,
+            start: left.start,
+        },
         begins: 1,
-        kind: item::STRICT,
+        kind: Kind::Strict,
         a,
         b: 0,
-    }
+    })
 }
 
 // `&&` or `||` after its left side.
-pub fn mark(kind: u32, a: u32, ty: u32, start: u32) -> Made
-    ensures { made result.ok result.takes result.ty result.start result.begins result.kind result.a result.b ≡ some (mark_node kind a (record { type = type_of ty; start = start })) }
+pub fn mark(kind: Kind, a: u32, left: Operand) -> Made
+    ensures { node_in result ≡ mark_node (kind_number kind) a (held left) }
 {
     Made {
-        ok: true,
         takes: 1,
-        ty,
-        start,
+        gives: left,
         begins: 0,
         kind,
         a,
@@ -236,23 +185,24 @@ pub fn mark(kind: u32, a: u32, ty: u32, start: u32) -> Made
 }
 
 // `&&` or `||` after both sides.
-pub fn join(left: u32, start: u32, right: u32) -> Made
-    ensures { (j : ℕ) → made result.ok result.takes result.ty result.start result.begins result.kind result.a result.b ≡ join_node (record { type = type_of left; start = start }) (record { type = type_of right; start = j }) }
+pub fn join(left: Operand, right: Operand) -> Option<Made>
+    ensures { (j : ℕ) → made result ≡ join_node (held left) (record { type = meant right.ty; start = j }) }
 {
-    if !same_type(BOOL, left) {
-        return broken();
+    if left.ty != ValueType::Bool {
+        return None;
     }
-    if !same_type(BOOL, right) {
-        return broken();
+    if right.ty != ValueType::Bool {
+        return None;
     }
-    Made {
-        ok: true,
+    Some(Made {
         takes: 2,
-        ty: BOOL,
-        start,
+        gives: Operand {
+            ty: ValueType::Bool,
+            start: left.start,
+        },
         begins: 1,
-        kind: item::JOIN,
+        kind: Kind::Join,
         a: 0,
         b: 0,
-    }
+    })
 }

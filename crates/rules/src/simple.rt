@@ -1,42 +1,42 @@
-// A statement with no block, by its kind.
+// Statements with no block: one function for each kind.
 ghost use Rattle.std.specs.Prelude.{◌≡◌, false, drop};
-ghost use Rattle.rules.specs.Tables.{result_of, globals_in};
-ghost use Rattle.rules.specs.Statements.{Heads, Moves, StmtRoom, Statement, holds_blocks};
+ghost use Rattle.grammar.specs.Numbers.{number_of_statement};
+ghost use Rattle.rules.specs.Values.{result_in, globals_of};
+ghost use Rattle.rules.specs.Statements.{Headed, Moves, StmtRoom, Statement as StatesOne, holds_blocks};
 
 use crate::head::Head;
+use crate::program::Program;
 use crate::run::run;
-use crate::single::{DECLARE_BOOL, DECLARE_INT, assign, declare, emit, give, leave};
+use crate::single::{assign, declare, emit, give, leave};
 use crate::store::store;
-use crate::{Spot, Step};
-use flat::statement;
+use crate::{Broken, Scope, Spot};
+use grammar::tree::Statement;
 
 // The statement whose header stands here.
 pub fn simple(
-    text: &[u8],
-    tree: &[u32],
-    globals: &[u32],
+    program: &Program,
     locals: &mut [u32],
     types: &mut [u32],
     starts: &mut [u32],
     core: &mut [u32],
     spot: Spot,
     head: Head,
-) -> Step
-    requires { StmtRoom tree.now spot.globals locals.old spot.visible spot.count types.old starts.old core.old spot.tree spot.core head.rest × Heads (drop spot.tree tree.now) head.kind head.at head.size head.first head.second head.body head.other head.rest }
-    ensures statement { holds_blocks head.kind ≡ false → Statement text.now (globals_in text.now tree.now globals.now spot.globals) locals.old spot.visible spot.count (result_of spot.result)
-        (drop spot.tree tree.now) spot.core core.old result locals.new core.new }
-    ensures moves { Moves spot.visible spot.count locals.old result locals.new }
+) -> Result<Scope, Broken>
+    requires { StmtRoom program.now.tree.now locals.old spot.scope.visible spot.scope.count types.old starts.old core.old spot.tree spot.core head.rest × Headed (drop spot.tree program.now.tree.now) head }
+    ensures statement { holds_blocks (number_of_statement head.kind) ≡ false → StatesOne program.now.text.now (globals_of program.now) locals.old spot.scope.visible spot.scope.count (result_in spot.result)
+        (drop spot.tree program.now.tree.now) spot.core core.old result locals.new core.new }
+    ensures moves { Moves spot.scope.visible spot.scope.count locals.old result locals.new }
 {
-    let k = head.kind;
-    match k {
-        statement::PUT => assign(text, tree, globals, locals, types, starts, core, spot, head),
-        statement::STORE => store(text, tree, globals, locals, types, starts, core, spot, head),
-        statement::LEAVE => leave(core, spot, head),
-        statement::GIVE => give(text, tree, globals, locals, types, starts, core, spot, head),
-        statement::EMIT => emit(text, tree, globals, locals, types, starts, core, spot, head),
-        statement::RUN => run(text, tree, globals, locals, types, starts, core, spot, head),
-        DECLARE_INT => declare(text, tree, globals, locals, types, starts, core, spot, head),
-        DECLARE_BOOL => declare(text, tree, globals, locals, types, starts, core, spot, head),
-        _ => Step::Broken(0),
+    match head.kind {
+        Statement::Assign => assign(program, locals, types, starts, core, spot, head),
+        Statement::Store => store(program, locals, types, starts, core, spot, head),
+        Statement::Leave => leave(core, spot, head),
+        Statement::Give => give(program, locals, types, starts, core, spot, head),
+        Statement::Emit => emit(program, locals, types, starts, core, spot, head),
+        Statement::Run => run(program, locals, types, starts, core, spot, head),
+        Statement::DeclareInt => declare(program, locals, types, starts, core, spot, head),
+        Statement::DeclareBool => declare(program, locals, types, starts, core, spot, head),
+        // these have blocks
+        _ => Err(Broken(0)),
     }
 }

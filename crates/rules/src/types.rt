@@ -1,23 +1,27 @@
-// Types: 1 is int, 2 is bool.
+// Types, and the numbers that stand for them in the lent words.
 ghost use Rattle.std.specs.Prelude.{◌≡◌, ◌≤◌};
-ghost use Rattle.language.specs.Rules.{same_ty};
-ghost use Rattle.rules.specs.Tables.{type_of, types_from, same_types};
-ghost use Rattle.rules.specs.Post.{most_places};
+ghost use Rattle.rules.specs.Tables.{type_of, result_of, types_from, same_types};
+ghost use Rattle.rules.specs.Bounds.{most_places};
+ghost use Rattle.rules.specs.Values.{meant, result_in};
 
-use crate::names::word;
+use grammar::tree::ValueType;
+use word::lists::word;
 
-pub const INT: u32 = 1;
-
-pub const BOOL: u32 = 2;
-
-// Whether two types are the same.
-pub fn same_type(x: u32, y: u32) -> bool
-    ensures { result ≡ same_ty (type_of x) (type_of y) }
+// The type of this number. No tree has another than the two: it counts as an int's, so that any words can be read.
+pub fn value_type(number: u32) -> ValueType
+    ensures { meant result ≡ type_of number }
 {
-    if x == BOOL {
-        return y == BOOL;
+    ValueType::try_from(number).unwrap_or(ValueType::Int)
+}
+
+// A function's result type, by its number; 0 where it has none.
+pub fn result_type(n: u32) -> Option<ValueType>
+    ensures { result_in result ≡ result_of n }
+{
+    if n == 0 {
+        return None;
     }
-    y != BOOL
+    Some(value_type(n))
 }
 
 // Whether n types are the same: those from word i of one row on, and every third from word j of the other on.
@@ -25,14 +29,12 @@ pub fn same_types(ts: &[u32], i: usize, tree: &[u32], j: usize, n: u32) -> bool
     requires { (i ≤ most_places) × (j ≤ most_places) }
     ensures { result ≡ same_types (types_from ts.now 1 i n) (types_from tree.now 3 j n) }
 {
-    let mut k: u32 = 0;
-    while k < n {
-        let x = word(ts, i + k as usize);
-        let y = word(tree, j + 3 * k as usize);
-        if !same_type(x, y) {
+    for k in 0..n {
+        let x = value_type(word(ts, i + k as usize));
+        let y = value_type(word(tree, j + 3 * k as usize));
+        if x != y {
             return false;
         }
-        k += 1;
     }
     true
 }

@@ -12,12 +12,10 @@ use borrow.Author.Tests.{le-leb, lt-leb}
 use Rattle.language.specs.Tree.{Place}
 use Rattle.language.specs.Tokens.{Token, Placed, placed, Answer, Answer.good, Answer.refused, Found, is, is_blank, in_comment, span, token_at, also, read_from, tokens_of, longest_text}
 use Rattle.tokens.specs.Kinds.{kind_of, value_of, flat, token_room}
-use Rattle.tokens.specs.Seen.{seen}
+use Rattle.tokens.specs.Seen.{Seen, seen}
 use Rattle.tokens.specs.Told.{Told}
-use Rattle.tokens.specs.declared.Seen.{Seen}
-use denote.Enum.Declared.{tag_of}
-use types.Run.{OneOf, miss}
-use Rattle.tokens.specs.declared.Outcome.TheVariants as Outcome
+use Rattle.std.specs.Prelude.{Result}
+use Rattle.tokens.specs.declared.Unread.TheVariants as unread
 use Rattle.tokens.proofs.Steps.{read_blank, read_comment, read_token, read_fault}
 use Rattle.tokens.proofs.Sound.{There, TokenThere, token_there, tokens_sound}
 use Rattle.tokens.proofs.Complete.{tokens_complete}
@@ -55,11 +53,6 @@ flat_length (x ∷ ts) = omega (arith, flat_length ts)
 sets_append : (l : List ℕ) (i : ℕ) (a b : List ℕ) → sets (sets l i a) (i + length a) b ≡ sets l i (a ++ b)
 sets_append l i [] b = ap (λ (k : ℕ). sets l k b) (add-zero i)
 sets_append l i (x ∷ a) b = ap (λ (k : ℕ). sets (sets l i (x ∷ a)) k b) (add-suc i (length a) ∙ sym (suc-add i (length a))) ∙ sets_append (lib.ListN.set l i x) (suc i) a b
-
--- what is no token is a fault
-pub is_fault : (s : Seen) → OneOf (1 ∷ []) (tag_of Rattle.tokens.specs.contracts.Seen.the_type s) → s ≡ Seen.Fault
-is_fault (Seen.Token k v n) e = absurd (miss (1 ∷ []) 0 tt e)
-is_fault Seen.Fault e = refl
 
 -- a token has at least one byte and ends within the text
 pub token_size : (text : List ℕ) (i k v s : ℕ) → i ≤ length text → Seen.Token k v s ≡ seen (token_at (drop i text)) → (0 < s) × (i + s ≤ length text)
@@ -171,7 +164,7 @@ module _ {text before after : List ℕ} {n i : ℕ} (g : Going text before n i a
 -- The answers.
 
 module _ (text before : List ℕ) where
-  unreadable : (p : Place) → token_room ≤ length before → tokens_of text ≡ refused p → (after : List ℕ) → Told text before (Outcome.Refused p) after
+  unreadable : (p : Place) → token_room ≤ length before → tokens_of text ≡ refused p → (after : List ℕ) → Told text before (Result.Err (unread.Unreadable p)) after
   unreadable p r e after =
       record {
         by = record {
@@ -181,10 +174,10 @@ module _ (text before : List ℕ) where
         };
       }
 
-  pub no_room : length before < token_room → Told text before Outcome.NoRoom before
+  pub no_room : length before < token_room → Told text before (Result.Err unread.NoRoom) before
   no_room h = record { by = (h, refl) }
 
-  pub too_long : token_room ≤ length before → longest_text < length text → (after : List ℕ) → Told text before (Outcome.Refused longest_text) after
+  pub too_long : token_room ≤ length before → longest_text < length text → (after : List ℕ) → Told text before (Result.Err (unread.Unreadable longest_text)) after
   unfolding tokens_of
   too_long r h after = unreadable longest_text r (rw (lt-leb (length text) longest_text h)) after
 
@@ -193,10 +186,10 @@ module _ (text before : List ℕ) where
     unfolding tokens_of
     whole = rw (le-leb (length text) longest_text l)
 
-    pub at_fault : (p : Place) → read_from 0 0 text ≡ refused p → (after : List ℕ) → Told text before (Outcome.Refused p) after
+    pub at_fault : (p : Place) → read_from 0 0 text ≡ refused p → (after : List ℕ) → Told text before (Result.Err (unread.Unreadable p)) after
     at_fault p e after = unreadable p r (whole ∙ e) after
 
-    pub well : {n i : ℕ} {after : List ℕ} → Going text before n i after → length text ≤ i → Told text before (Outcome.Read n) after
+    pub well : {n i : ℕ} {after : List ℕ} → Going text before n i after → length text ≤ i → Told text before (Result.Ok n) after
     well {n} {i} {after} g h =
         let e : tokens_of text ≡ good g.tokens = whole ∙ at_end g h in
         record { by = record { enough = r; tokens = g.tokens; reads = tokens_sound text g.tokens e; says = e; count = g.count; room = g.room } }

@@ -10,3 +10,4 @@ pub mod Words
 pub mod Looks
 pub mod Going
 pub mod Room
+pub mod KindNumbers

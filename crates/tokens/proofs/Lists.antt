@@ -9,6 +9,7 @@ use Prim.Native.String.{String}
 use native.Mathlib.Omega.{arith}
 use lib.Dec.{leb, eqb}
 use lib.ListN.{length, drop}
+use lib.Pointwise.{pointwise}
 use borrow.Author.Tests.{eqb-true, eq-eqb, leb-true, not-true}
 use Rattle.word.specs.Choice.{pick, both, either}
 use Rattle.language.specs.Tokens.{In, In.here, In.there, bytes, all, starts, same, begins, span, find}
@@ -67,6 +68,14 @@ module _ (P : ℕ → Bool) where
   starts_append (b ∷ w) rest h = h
 
 -- The same bytes.
+
+-- what the library's `==` of slices tests
+pub pointwise_same : (v w : List ℕ) → pointwise eqb v w ≡ same v w
+unfolding same
+pointwise_same [] [] = refl
+pointwise_same [] (b ∷ w) = refl
+pointwise_same (a ∷ v) [] = refl
+pointwise_same (a ∷ v) (b ∷ w) = ap (both (eqb a b)) (pointwise_same v w)
 
 pub same_eq : (w v : List ℕ) → same w v ≡ true → w ≡ v
 unfolding same

@@ -1,37 +1,43 @@
 -- What stands at byte i, as the code finds it out: a name, a number, a sign.
 use mathlib.Core.Path.{◌≡◌, refl, sym, ap, ◌∙◌}
 use mathlib.Core.Bool.{Bool, true, false, not}
-use mathlib.Core.List.{List, [], ◌∷◌}
+use mathlib.Core.List.{List, [], ◌∷◌, ◌++◌}
 use mathlib.Core.Option.{Option, none, some}
 use Prim.Native.Nat.{ℕ, suc, ◌+◌, ◌*◌, ◌-◌, ◌≤◌, ◌<◌}
 use Prim.Native.String.{String}
 use native.Mathlib.Omega.{arith}
 use native.Mathlib.Numerals.{add-one}
 use lib.Dec.{ltb, eqb}
-use lib.ListN.{length, get_or, take, drop, drop_of_length-le}
+use lib.ListN.{length, get_or, take, drop, length-drop, length-append}
 use lib.Seq.{drop-cons, drop-drop, get_or-drop, take-append_seam}
-use borrow.Author.Tests.{ne_eqb, eqb-true, le-leb, lt-leb, ltb-true, lt-ltb, le-ltb}
+use borrow.Author.Tests.{ne_eqb, eqb-true, le-leb, lt-leb, ltb-true}
 use Rattle.word.specs.Choice.{pick, both}
-use Rattle.language.specs.Tokens.{Word, Sign, In, bytes, signs, begins, as_sign, unpadded, decimal, is_letter, is_digit, in_name, words, starts, same, span, find, or_name, name_at, number_at, token_at}
+use Rattle.language.specs.Tokens.{all, Word, Sign, In, bytes, signs, begins, as_sign, unpadded, decimal, is_letter, is_digit, in_name, words, starts, same, span, find, or_name, name_at, number_at, token_at}
 use Rattle.tokens.specs.Kinds.{kind_of, value_of, word_kind, sign_kind}
-use Rattle.tokens.specs.Seen.{seen, kind_or_none, sign_in}
-use Rattle.tokens.specs.declared.Seen.{Seen}
+use Rattle.tokens.specs.Seen.{Seen, seen, kind_or_none, sign_in}
 use Rattle.tokens.proofs.Lists.{span_split, every, every_in, both_true, either_right, Hit, find_hit}
 use Rattle.tokens.proofs.Scan.{starts_at}
 use Rattle.tokens.proofs.Tables.{letter_in}
 
--- the longest beginning is the bytes before its end
-pub span_part : (P : ℕ → Bool) (text : List ℕ) (i e : ℕ) → e ≡ i + length (span P (drop i text)) → take (e - i) (drop i text) ≡ span P (drop i text)
-span_part P text i e q =
-    let n : e - i ≡ length (span P (drop i text)) = omega arith in
-    ap (λ (k : ℕ). take k (drop i text)) n ∙ ap (take (length (span P (drop i text)))) (span_split P (drop i text)) ∙ take-append_seam (span P (drop i text)) (drop (length (span P (drop i text))) (drop i text))
+-- the longest beginning is its first bytes
+pub span_part : (P : ℕ → Bool) (text : List ℕ) (i n : ℕ) → n ≡ length (span P (drop i text)) → take (i + n - i) (drop i text) ≡ span P (drop i text)
+span_part P text i n q =
+    let m : i + n - i ≡ length (span P (drop i text)) = omega arith in
+    ap (λ (k : ℕ). take k (drop i text)) m ∙ ap (take (length (span P (drop i text)))) (span_split P (drop i text)) ∙ take-append_seam (span P (drop i text)) (drop (length (span P (drop i text))) (drop i text))
+
+-- it is within the text
+pub span_within : (P : ℕ → Bool) (text : List ℕ) (i n : ℕ) → i ≤ length text → n ≡ length (span P (drop i text)) → i + n ≤ length text
+span_within P text i n h q =
+    let m : length (drop i text) ≡ length text - i = length-drop i text in
+    let k : length (span P (drop i text) ++ drop (length (span P (drop i text))) (drop i text)) ≡ length (span P (drop i text)) + length (drop (length (span P (drop i text))) (drop i text)) = length-append (span P (drop i text)) (drop (length (span P (drop i text))) (drop i text)) in
+    omega (arith, q, m, k, ap length (span_split P (drop i text)))
 
 module _ (text : List ℕ) (i : ℕ) where
-  pub name_some : i < length text → is_letter (get_or text i 0) ≡ true → {e : ℕ} → e ≡ i + length (span in_name (drop i text)) → 0 < e - i
+  pub name_some : i < length text → is_letter (get_or text i 0) ≡ true → {n : ℕ} → n ≡ length (span in_name (drop i text)) → 0 < n
   unfolding span
-  name_some h l {e} q =
+  name_some h l {n} q =
       let p : span in_name (drop i text) ≡ get_or text i 0 ∷ span in_name (drop (suc i) text) = rw (drop-cons text i 0 h, letter_in (get_or text i 0) l) in
-      omega (arith, ap length p)
+      omega (arith, q, ap length p)
 
 -- a word's kind is no name's
 word_other : (x : Word) → 1 < word_kind x
@@ -59,27 +65,24 @@ unfolding kind_of value_of or_name
 word_value w none n = absurd (n refl)
 word_value w (some r) n = refl
 
-module _ (text : List ℕ) (i e : ℕ) (q : e ≡ i + length (span in_name (drop i text))) where
-  pub name_long : 32 < e - i → Seen.Fault ≡ seen (name_at (span in_name (drop i text)))
+module _ (text : List ℕ) (i n : ℕ) (q : n ≡ length (span in_name (drop i text))) where
+  pub name_long : 32 < n → Seen.Fault ≡ seen (name_at (span in_name (drop i text)))
   unfolding name_at seen
-  name_long h = let n : 32 < length (span in_name (drop i text)) = omega arith in rw (lt-leb (length (span in_name (drop i text))) 32 n)
+  name_long h = let m : 32 < length (span in_name (drop i text)) = omega arith in rw (lt-leb (length (span in_name (drop i text))) 32 m)
 
-  short_name : e - i ≤ 32 → seen (name_at (span in_name (drop i text))) ≡ Seen.Token (kind_of (or_name (span in_name (drop i text)) (find (same (span in_name (drop i text))) words))) (value_of (or_name (span in_name (drop i text)) (find (same (span in_name (drop i text))) words))) (length (span in_name (drop i text)))
+  short_name : n ≤ 32 → seen (name_at (span in_name (drop i text))) ≡ Seen.Token (kind_of (or_name (span in_name (drop i text)) (find (same (span in_name (drop i text))) words))) (value_of (or_name (span in_name (drop i text)) (find (same (span in_name (drop i text))) words))) (length (span in_name (drop i text)))
   unfolding name_at seen
-  short_name h = let n : length (span in_name (drop i text)) ≤ 32 = omega arith in rw (le-leb (length (span in_name (drop i text))) 32 n)
+  short_name h = let m : length (span in_name (drop i text)) ≤ 32 = omega arith in rw (le-leb (length (span in_name (drop i text))) 32 m)
 
-  module _ (k : ℕ) (h : e - i ≤ 32) (r : k ≡ kind_of (or_name (take (e - i) (drop i text)) (find (same (take (e - i) (drop i text))) words))) where
+  module _ (k : ℕ) (h : n ≤ 32) (r : k ≡ kind_of (or_name (take (i + n - i) (drop i text)) (find (same (take (i + n - i) (drop i text))) words))) where
     kind : k ≡ kind_of (or_name (span in_name (drop i text)) (find (same (span in_name (drop i text))) words))
-    kind = r ∙ ap (λ (w : List ℕ). kind_of (or_name w (find (same w) words))) (span_part in_name text i e q)
+    kind = r ∙ ap (λ (w : List ℕ). kind_of (or_name w (find (same w) words))) (span_part in_name text i n q)
 
-    size : e - i ≡ length (span in_name (drop i text))
-    size = omega arith
+    pub name_plain : k ≡ 1 → Seen.Token k (n) (n) ≡ seen (name_at (span in_name (drop i text)))
+    name_plain o = cc (short_name h, kind, q, plain_value (span in_name (drop i text)) (find (same (span in_name (drop i text))) words) (sym kind ∙ o))
 
-    pub name_plain : k ≡ 1 → Seen.Token k (e - i) (e - i) ≡ seen (name_at (span in_name (drop i text)))
-    name_plain o = cc (short_name h, kind, size, plain_value (span in_name (drop i text)) (find (same (span in_name (drop i text))) words) (sym kind ∙ o))
-
-    pub name_word : (k ≡ 1 → ⊥) → Seen.Token k 0 (e - i) ≡ seen (name_at (span in_name (drop i text)))
-    name_word o = cc (short_name h, kind, size, word_value (span in_name (drop i text)) (find (same (span in_name (drop i text))) words) (λ z. o (kind ∙ z)))
+    pub name_word : (k ≡ 1 → ⊥) → Seen.Token k 0 (n) ≡ seen (name_at (span in_name (drop i text)))
+    name_word o = cc (short_name h, kind, q, word_value (span in_name (drop i text)) (find (same (span in_name (drop i text))) words) (λ z. o (kind ∙ z)))
 
 -- Numbers.
 
@@ -101,23 +104,18 @@ unfolding decimal
 decimal_grows v [] = omega arith
 decimal_grows v (b ∷ w) = omega (arith, decimal_grows (v * 10 + (b - 48)) w)
 
--- one digit more, which counts d
-module _ (text : List ℕ) (j : ℕ) (h : j < length text) (v d : ℕ) (e : is_digit (get_or text j 0) ≡ true) (q : d ≡ get_or text j 0 - 48) where
-  pub decimal_on : decimal v (span is_digit (drop j text)) ≡ decimal (v * 10 + d) (span is_digit (drop (j + 1) text))
-  unfolding decimal span
-  decimal_on = rw (drop-cons text j 0 h, e, add-one, q)
+-- the digit at k, which counts d, and those after it
+module _ (w : List ℕ) (k : ℕ) (h : k < length w) where
+  pub digit_on : all is_digit (drop k w) ≡ true → (is_digit (get_or w k 0) ≡ true) × (all is_digit (drop (k + 1) w) ≡ true)
+  unfolding all
+  digit_on e =
+      let q : both (is_digit (get_or w k 0)) (all is_digit (drop (suc k) w)) ≡ true = ap (all is_digit) (sym (drop-cons w k 0 h)) ∙ e in
+      let r : (is_digit (get_or w k 0) ≡ true) × (all is_digit (drop (suc k) w) ≡ true) = both_true _ _ q in
+      (r.0, ap (λ (m : ℕ). all is_digit (drop m w)) (add-one k) ∙ r.1)
 
-  pub decimal_big : (w : List ℕ) → decimal 0 w ≡ decimal v (span is_digit (drop j text)) → 2147483647 < v * 10 + d → 2147483647 < decimal 0 w
-  decimal_big w r l = omega (arith, r, decimal_on, decimal_grows (v * 10 + d) (span is_digit (drop (j + 1) text)))
-
--- at the end of the digits nothing is left of them
-pub decimal_off : (text : List ℕ) (j : ℕ) → j < length text → (v : ℕ) → is_digit (get_or text j 0) ≡ false → v ≡ decimal v (span is_digit (drop j text))
-unfolding decimal span
-decimal_off text j h v e = rw (drop-cons text j 0 h, e)
-
-pub decimal_out : (text : List ℕ) (j : ℕ) → length text ≤ j → (v : ℕ) → v ≡ decimal v (span is_digit (drop j text))
-unfolding decimal span
-decimal_out text j h v = rw (drop_of_length-le text h)
+  pub decimal_on : (v d : ℕ) → d ≡ get_or w k 0 - 48 → decimal v (drop k w) ≡ decimal (v * 10 + d) (drop (k + 1) w)
+  unfolding decimal
+  decimal_on v d q = rw (drop-cons w k 0 h, add-one, q)
 
 both_no : (a b : Bool) → both a (both b false) ≡ false
 both_no true true = refl
@@ -145,7 +143,7 @@ unfolding unpadded starts
 other [] p n = absurd (omega arith)
 other (b ∷ w) p n = either_right (same (b ∷ w) (bytes "0")) (not (eqb b 48)) (rw (ne_eqb b 48 n))
 
-module _ (text : List ℕ) (i j : ℕ) (h : i < length text) (d : is_digit (get_or text i 0) ≡ true) (q : j ≡ i + length (span is_digit (drop i text))) where
+module _ (text : List ℕ) (i n : ℕ) (h : i < length text) (d : is_digit (get_or text i 0) ≡ true) (q : n ≡ length (span is_digit (drop i text))) where
   digits : List ℕ
   digits = span is_digit (drop i text)
 
@@ -162,33 +160,32 @@ module _ (text : List ℕ) (i j : ℕ) (h : i < length text) (d : is_digit (get_
   head : get_or (span is_digit (drop i text)) 0 0 ≡ get_or text i 0
   head = rw first
 
-  next : starts in_name (drop (length (span is_digit (drop i text))) (drop i text)) ≡ in_name (get_or text j 0)
-  next = rw (drop-drop (length (span is_digit (drop i text))) i text, ← q) (starts_at in_name name_zero text j)
+  next : starts in_name (drop (length (span is_digit (drop i text))) (drop i text)) ≡ in_name (get_or text (i + n) 0)
+  next = rw (drop-drop (length (span is_digit (drop i text))) i text, ← q) (starts_at in_name name_zero text (i + n))
 
   both_mid : (a c : Bool) → both a (both false c) ≡ false
   both_mid true c = refl
   both_mid false c = refl
 
-  pub number_letter : in_name (get_or text j 0) ≡ true → Seen.Fault ≡ seen (number_at (span is_digit (drop i text)) (drop (length (span is_digit (drop i text))) (drop i text)))
+  pub number_letter : in_name (get_or text (i + n) 0) ≡ true → Seen.Fault ≡ seen (number_at (span is_digit (drop i text)) (drop (length (span is_digit (drop i text))) (drop i text)))
   unfolding number_at seen
   number_letter l = rw (next ∙ l)
 
-  pub number_padded : get_or text i 0 ≡ 48 → 1 < j - i → Seen.Fault ≡ seen (number_at (span is_digit (drop i text)) (drop (length (span is_digit (drop i text))) (drop i text)))
+  pub number_padded : get_or text i 0 ≡ 48 → 1 < n → Seen.Fault ≡ seen (number_at (span is_digit (drop i text)) (drop (length (span is_digit (drop i text))) (drop i text)))
   unfolding number_at seen
   number_padded z l = rw (padded (span is_digit (drop i text)) (head ∙ z) (omega arith), both_mid)
 
-  good : (v : ℕ) → v ≡ decimal 0 (span is_digit (drop i text)) → v ≤ 2147483647 → in_name (get_or text j 0) ≡ false → unpadded (span is_digit (drop i text)) ≡ true → Seen.Token 2 v (j - i) ≡ seen (number_at (span is_digit (drop i text)) (drop (length (span is_digit (drop i text))) (drop i text)))
+  good : (v : ℕ) → v ≡ decimal 0 (span is_digit (drop i text)) → v ≤ 2147483647 → in_name (get_or text (i + n) 0) ≡ false → unpadded (span is_digit (drop i text)) ≡ true → Seen.Token 2 v (n) ≡ seen (number_at (span is_digit (drop i text)) (drop (length (span is_digit (drop i text))) (drop i text)))
   unfolding number_at seen kind_of value_of
-  good v e l n u =
-      let k : j - i ≡ length (span is_digit (drop i text)) = omega arith in
+  good v e l o u =
       let m : decimal 0 (span is_digit (drop i text)) ≤ 2147483647 = omega arith in
-      rw (next ∙ n, u, le-leb (decimal 0 (span is_digit (drop i text))) 2147483647 m, e, k)
+      rw (next ∙ o, u, le-leb (decimal 0 (span is_digit (drop i text))) 2147483647 m, e, q)
 
-  pub number_good : (v : ℕ) → v ≡ decimal 0 (span is_digit (drop i text)) → v ≤ 2147483647 → in_name (get_or text j 0) ≡ false → (get_or text i 0 ≡ 48 → ⊥) → Seen.Token 2 v (j - i) ≡ seen (number_at (span is_digit (drop i text)) (drop (length (span is_digit (drop i text))) (drop i text)))
-  number_good v e l n u = good v e l n (other (span is_digit (drop i text)) some_digits (λ z. u (sym head ∙ z)))
+  pub number_good : (v : ℕ) → v ≡ decimal 0 (span is_digit (drop i text)) → v ≤ 2147483647 → in_name (get_or text (i + n) 0) ≡ false → (get_or text i 0 ≡ 48 → ⊥) → Seen.Token 2 v (n) ≡ seen (number_at (span is_digit (drop i text)) (drop (length (span is_digit (drop i text))) (drop i text)))
+  number_good v e l o u = good v e l o (other (span is_digit (drop i text)) some_digits (λ z. u (sym head ∙ z)))
 
-  pub number_zero : (v : ℕ) → v ≡ decimal 0 (span is_digit (drop i text)) → v ≤ 2147483647 → in_name (get_or text j 0) ≡ false → get_or text i 0 ≡ 48 → j - i ≤ 1 → Seen.Token 2 v (j - i) ≡ seen (number_at (span is_digit (drop i text)) (drop (length (span is_digit (drop i text))) (drop i text)))
-  number_zero v e l n u z = good v e l n (alone (span is_digit (drop i text)) (omega arith) some_digits (head ∙ u))
+  pub number_zero : (v : ℕ) → v ≡ decimal 0 (span is_digit (drop i text)) → v ≤ 2147483647 → in_name (get_or text (i + n) 0) ≡ false → get_or text i 0 ≡ 48 → n ≤ 1 → Seen.Token 2 v (n) ≡ seen (number_at (span is_digit (drop i text)) (drop (length (span is_digit (drop i text))) (drop i text)))
+  number_zero v e l o u z = good v e l o (alone (span is_digit (drop i text)) (omega arith) some_digits (head ∙ u))
 
 -- Signs.
 
@@ -237,14 +234,8 @@ module _ (text : List ℕ) (i k : ℕ) (h : i < length text) (q : k ≡ sign_in 
   pub sign_none : k ≡ 0 → Seen.Fault ≡ seen (as_sign (find (λ s. begins s (drop i text)) signs))
   sign_none z = no_kind (λ s. begins s (drop i text)) (find (λ s. begins s (drop i text)) signs) (find_hit (λ s. begins s (drop i text)) signs) (sym kind_there ∙ z)
 
-  there : (k ≡ 0 → ⊥) → Seen.Token k 0 (pick (ltb k 9) 2 1) ≡ seen (as_sign (find (λ s. begins s (drop i text)) signs))
-  there z = ap (λ (m : ℕ). Seen.Token m 0 (pick (ltb m 9) 2 1)) kind_there ∙ a_kind (λ s. begins s (drop i text)) (find (λ s. begins s (drop i text)) signs) (find_hit (λ s. begins s (drop i text)) signs) (λ e. z (kind_there ∙ e))
-
-  pub sign_two : (k ≡ 0 → ⊥) → k < 9 → Seen.Token k 0 2 ≡ seen (as_sign (find (λ s. begins s (drop i text)) signs))
-  sign_two z l = ap (λ (t : Bool). Seen.Token k 0 (pick t 2 1)) (sym (lt-ltb k 9 l)) ∙ there z
-
-  pub sign_one : (k ≡ 0 → ⊥) → 9 ≤ k → Seen.Token k 0 1 ≡ seen (as_sign (find (λ s. begins s (drop i text)) signs))
-  sign_one z l = ap (λ (t : Bool). Seen.Token k 0 (pick t 2 1)) (sym (le-ltb k 9 l)) ∙ there z
+  pub sign_some : (k ≡ 0 → ⊥) → Seen.Token k 0 (pick (ltb k 9) 2 1) ≡ seen (as_sign (find (λ s. begins s (drop i text)) signs))
+  sign_some z = ap (λ (m : ℕ). Seen.Token m 0 (pick (ltb m 9) 2 1)) kind_there ∙ a_kind (λ s. begins s (drop i text)) (find (λ s. begins s (drop i text)) signs) (find_hit (λ s. begins s (drop i text)) signs) (λ e. z (kind_there ∙ e))
 
 -- Tokens.
 

@@ -1,33 +1,18 @@
 -- Laws for scanning a text by positions: what stands from byte i on is `drop i text`.
 use mathlib.Core.Path.{◌≡◌, refl, sym, ap, ◌∙◌}
-use mathlib.Core.Bool.{Bool, true, false, not}
+use mathlib.Core.Bool.{Bool, true, false}
 use mathlib.Core.List.{List, [], ◌∷◌}
-use Prim.Native.Nat.{ℕ, zero, suc, ◌+◌, ◌≤◌, ◌<◌}
+use Prim.Native.Nat.{ℕ, zero, suc, ◌+◌, ◌-◌, ◌≤◌, ◌<◌}
 use native.Mathlib.Omega.{arith}
 use native.Mathlib.Numerals.{add-one}
 use lib.Dec.{eqb}
-use lib.ListN.{length, get_or, take, drop, length-take, length-drop, drop_of_length-le}
-use lib.Seq.{drop-cons, get_or-drop, get_or-take}
-use borrow.Author.Tests.{eq-eqb, ne_eqb, eqb-true}
-use Rattle.word.specs.Choice.{both, either}
+use lib.ListN.{length, get_or, take, drop, length-drop, drop_of_length-le}
+use lib.Seq.{drop-cons, take_all}
+use borrow.Author.Tests.{eq-eqb, ne_eqb}
+use Rattle.word.specs.Choice.{both}
 use Rattle.language.specs.Tokens.{starts, same, span}
+use Rattle.tokens.specs.Seen.{SpansBy}
 use Rattle.tokens.proofs.Lists.{same_eq}
-
-pub both_right : (a : Bool) → both a true ≡ a
-both_right true = refl
-both_right false = refl
-
-pub either_none : (a : Bool) → either a false ≡ a
-either_none true = refl
-either_none false = refl
-
--- a carriage return is no line feed
-pub return_alone : (b : ℕ) → both (either (eqb b 10) (eqb b 13)) (not (eqb b 10)) ≡ eqb b 13
-return_alone b = go (eqb b 10) refl
-  where
-    go : (t : Bool) → eqb b 10 ≡ t → both (either t (eqb b 13)) (not t) ≡ eqb b 13
-    go true e = rw (eqb-true b 10 e)
-    go false e = both_right (eqb b 13)
 
 -- the byte at i is the first of the rest; P does not hold of 0, which stands for the end
 pub starts_at : (P : ℕ → Bool) → P 0 ≡ false → (text : List ℕ) (i : ℕ) → starts P (drop i text) ≡ P (get_or text i 0)
@@ -37,19 +22,23 @@ starts_at P z [] (suc i) = sym z
 starts_at P z (b ∷ l) zero = refl
 starts_at P z (b ∷ l) (suc i) = starts_at P z l i
 
-module _ (P : ℕ → Bool) (text : List ℕ) where
-  module _ (from i : ℕ) (inv : from + length (span P (drop from text)) ≡ i + length (span P (drop i text))) where
-    pub span_on : i < length text → P (get_or text i 0) ≡ true → from + length (span P (drop from text)) ≡ i + 1 + length (span P (drop (i + 1) text))
-    unfolding span
-    span_on h e = inv ∙ rw (drop-cons text i 0 h, e, add-one) (omega arith)
+-- how long the longest beginning is: so many bytes that were looked at, and those of the rest
+module _ (P : ℕ → Bool) (rest : List ℕ) (i : ℕ) (inv : length (span P rest) ≡ i + length (span P (drop i rest))) where
+  pub span_on : i < length rest → P (get_or rest i 0) ≡ true → length (span P rest) ≡ i + 1 + length (span P (drop (i + 1) rest))
+  unfolding span
+  span_on h e = inv ∙ rw (drop-cons rest i 0 h, e, add-one) (omega arith)
 
-    pub span_off : i < length text → P (get_or text i 0) ≡ false → i ≡ from + length (span P (drop from text))
-    unfolding span
-    span_off h e = sym (inv ∙ rw (drop-cons text i 0 h, e) (omega arith))
+  pub span_off : i < length rest → P (get_or rest i 0) ≡ false → i ≡ length (span P rest)
+  unfolding span
+  span_off h e = sym (inv ∙ rw (drop-cons rest i 0 h, e) (omega arith))
 
-    pub span_out : length text ≤ i → i ≡ from + length (span P (drop from text))
-    unfolding span
-    span_out h = sym (inv ∙ rw (drop_of_length-le text h) (omega arith))
+  pub span_out : length rest ≤ i → i ≤ length rest → length rest ≡ length (span P rest)
+  unfolding span
+  span_out h k = let q : i ≡ length (span P rest) = sym (inv ∙ rw (drop_of_length-le rest h) (omega arith)) in omega (arith, q, h, k)
+
+-- that of the text from i on
+pub counts : {says : ℕ → Bool → Type 0} (P : ℕ → Bool) (text : List ℕ) (i : ℕ) {n : ℕ} → SpansBy says (take (length text - i) (drop i text)) n → ((b : ℕ) (r : Bool) → b < 256 → says b r → r ≡ P b) → n ≡ length (span P (drop i text))
+counts P text i s h = s.by P h ∙ ap (λ (l : List ℕ). length (span P l)) (take_all (length text - i) (drop i text) (omega (arith, length-drop i text)))
 
 -- Comparing with a spelling.
 
@@ -74,10 +63,3 @@ same_other v w n = go (same v w) refl
     go : (t : Bool) → same v w ≡ t → false ≡ t
     go true e = absurd (n (ap length (same_eq v w e)))
     go false e = refl
-
--- n bytes of the text
-pub part_length : (text : List ℕ) (i n : ℕ) → i + n ≤ length text → length (take n (drop i text)) ≡ n
-part_length text i n h = simp (length-take, length-drop) (omega arith)
-
-pub part_at : (text : List ℕ) (i n k : ℕ) → k < n → get_or (take n (drop i text)) k 0 ≡ get_or text (i + k) 0
-part_at text i n k h = rw (get_or-take, get_or-drop)

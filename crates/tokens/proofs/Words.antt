@@ -3,12 +3,11 @@ use mathlib.Core.Path.{◌≡◌, refl, sym, ap, ◌∙◌}
 use mathlib.Core.Bool.{Bool, true, false}
 use mathlib.Core.List.{List, [], ◌∷◌}
 use mathlib.Core.Option.{none, some}
-use Prim.Native.Nat.{ℕ, zero, suc, ◌+◌, ◌-◌, ◌≤◌, ◌<◌}
+use Prim.Native.Nat.{ℕ, ◌<◌}
 use Prim.Native.String.{String}
 use native.Mathlib.Omega.{arith}
 use lib.Dec.{eqb}
-use lib.ListN.{length, get_or, take, drop}
-use lib.Seq.{drop-cons}
+use lib.ListN.{length, get_or, drop}
 use Rattle.word.specs.Choice.{pick}
 use Rattle.language.specs.Tokens.{Word, bytes, words, starts, same, find, or_name}
 use Rattle.tokens.specs.Kinds.{kind_of, word_kind}
@@ -48,22 +47,16 @@ module _ (v : List ℕ) (b : ℕ) (v' : List ℕ) (e : v ≡ b ∷ v') where
       go true = refl
       go false = refl
 
-  two_words : (r s : Word × String) → only b words ≡ r ∷ s ∷ [] → kind_of (or_name v (find (same v) words)) ≡ pick (same v (bytes r.1)) (word_kind r.0) (pick (same v (bytes s.1)) (word_kind s.0) 1)
+  pub two_words : (r s : Word × String) → only b words ≡ r ∷ s ∷ [] → pick (same v (bytes r.1)) (word_kind r.0) (pick (same v (bytes s.1)) (word_kind s.0) 1) ≡ kind_of (or_name v (find (same v) words))
   unfolding find or_name kind_of
-  two_words r s q = rows (r ∷ s ∷ []) q ∙ go (same v (bytes r.1)) (same v (bytes s.1))
+  two_words r s q = sym (rows (r ∷ s ∷ []) q ∙ go (same v (bytes r.1)) (same v (bytes s.1)))
     where
       go : (t u : Bool) → kind_of (or_name v (pick t (some r) (pick u (some s) none))) ≡ pick t (word_kind r.0) (pick u (word_kind s.0) 1)
       go true u = refl
       go false true = refl
       go false false = refl
 
-  pub first_word : (r s : Word × String) → only b words ≡ r ∷ s ∷ [] → same v (bytes r.1) ≡ true → word_kind r.0 ≡ kind_of (or_name v (find (same v) words))
-  first_word r s q e = sym (two_words r s q ∙ rw e)
-
-  pub second_word : (r s : Word × String) → only b words ≡ r ∷ s ∷ [] → same v (bytes r.1) ≡ false → pick (same v (bytes s.1)) (word_kind s.0) 1 ≡ kind_of (or_name v (find (same v) words))
-  second_word r s q e = sym (two_words r s q ∙ rw e)
-
--- the first of n bytes
-pub part_first : (text : List ℕ) (i n b : ℕ) → i + n ≤ length text → 0 < n → get_or text i 0 ≡ b → take n (drop i text) ≡ b ∷ take (n - 1) (drop (suc i) text)
-part_first text i zero b h p e = absurd (omega arith)
-part_first text i (suc n) b h p e = let q : suc n - 1 ≡ n = omega arith in let k : i < length text = omega arith in rw (drop-cons text i 0 k, e, q)
+-- a name by its first letter
+pub first_letter : (name : List ℕ) (b : ℕ) → 0 < length name → get_or name 0 0 ≡ b → name ≡ b ∷ drop 1 name
+first_letter [] b p e = absurd (omega arith)
+first_letter (a ∷ name) b p e = rw e

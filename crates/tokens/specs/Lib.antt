@@ -1,3 +1,4 @@
 pub mod Kinds
 pub mod Seen
 pub mod Told
+pub mod Numbers

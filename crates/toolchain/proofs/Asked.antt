@@ -7,6 +7,10 @@ use lib.Dec.{T, leb, eqb}
 use borrow.Author.Tests.{leb-true, le-leb, lt-leb, ne_eqb}
 use Rattle.word.specs.Choice.{pick, both}
 use Rattle.processor.specs.Machine.{memory_bytes, register_count}
+use Rattle.emulator.specs.declared.image.Refusal as E
+use Rattle.emulator.specs.declared.image.Refusal.TheVariants as R
+use Rattle.emulator.specs.Refusal as N
+use Rattle.toolchain.specs.Refusals.{number_of, from_run}
 use Rattle.toolchain.specs.Emulation.{resume_answer}
 use Rattle.processor.specs.Image.{Lent, longest_code, longest_input, fits, accepted, answer_of}
 
@@ -44,6 +48,18 @@ enough l e =
       registers = leb-true _ _ rest.0;
       log = leb-true _ _ rest.1;
     }
+
+-- a refusal of the emulator's has its number here too, and none is that of an accepted call
+
+pub same_number : (e : E.Refusal) → number_of (from_run e) ≡ N.number_of e
+same_number R.Code = refl
+same_number R.Input = refl
+same_number R.Room = refl
+
+pub not_accepted : (e : E.Refusal) → number_of (from_run e) ≡ accepted → ⊥
+not_accepted R.Code h = absurd (omega arith)
+not_accepted R.Input h = absurd (omega arith)
+not_accepted R.Room h = absurd (omega arith)
 
 -- What a call to go on is answered: refused as from the start, refused for its log, or accepted.
 

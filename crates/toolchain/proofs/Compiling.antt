@@ -13,11 +13,13 @@ use Rattle.elaboration.proofs.Accepted.{accepted}
 use Rattle.elaboration.proofs.Kept.{kept}
 use Rattle.compiler.specs.Programs as P
 use Rattle.compiler.specs.Programs.{Bounded}
-use Rattle.compiler.specs.declared.Compiled as D
-use Rattle.compiler.specs.declared.Compiled.TheVariants as P'
-use Rattle.toolchain.specs.Checking.{Work, Enough, core_room}
+use Rattle.compiler.specs.declared.TooLong as P'
+use Rattle.toolchain.specs.Checking.{Enough, core_room}
+use Rattle.toolchain.specs.declared.work.Work.{Work}
+use Rattle.toolchain.specs.declared.refusals.Refusal.TheVariants.{TooLong}
+use Rattle.std.specs.Prelude.{Ok, Err}
 use Rattle.toolchain.specs.Compilation.{Compiles, too_long}
-use Rattle.toolchain.specs.Accepting.{Made, told_of}
+use Rattle.toolchain.specs.Accepting.{Made}
 
 -- the words, and nothing behind them
 words_are : {text core : List ℕ} {n : ℕ} (m : Made text n core) → take n core ≡ words_then m.program []
@@ -41,9 +43,9 @@ unfolding words_of
 words_few m = omega (arith, ap length (words_are m), m.size, m.short)
 
 module _ {text core : List ℕ} {n : ℕ} (w : Work) (e : Enough w) (m : Made text n core) (before after : List ℕ) (same : length after ≡ length before) where
-  pub compiled : (c : D.Compiled) → P.Compiles (take n core) before c after → Bounded c → Compiles text w before (told_of c) after
+  pub made_of : {k : ℕ} → P.Compiles (take n core) before (Ok k) after → Bounded (Ok k) → Compiles text w before (Ok k) after
   unfolding Compiles
-  compiled (P'.Image k) h b =
+  made_of {k} h b =
       let g = h.each m.program [] (words_are m) (accepted text m.program m.accepted).0 in
       record {
         program = m.program;
@@ -55,6 +57,9 @@ module _ {text core : List ℕ} {n : ℕ} (w : Work) (e : Enough w) (m : Made te
         there = g.1;
         keeps = kept text m.program m.accepted (omega (arith, b, g.0));
       }
-  compiled P'.TooLong h b =
+
+  pub too_long_for : {t : P'.TooLong} → P.Compiles (take n core) before (Err t) after → Compiles text w before (Err TooLong) after
+  unfolding Compiles
+  too_long_for h =
       let g = h.each m.program [] (words_are m) (accepted text m.program m.accepted).0 in
       (too_long e m.accepted g.0, g.1)

@@ -1,12 +1,12 @@
 -- A run whose machine stands in the parts that were handed on is held by the whole buffers.
 use Prim.Native.Nat.{ℕ, ◌≤◌}
-use mathlib.Core.Path.{◌≡◌, sym, ◌∙◌, ap}
+use mathlib.Core.Path.{◌≡◌, refl, sym, ◌∙◌, ap}
 use mathlib.Core.List.{List, ◌++◌}
 use lib.ListN.{length, take, drop, take-append-drop}
 use lib.Seq.{length-take-le}
 use Rattle.processor.specs.Machine.{memory_bytes, register_count}
 use Rattle.processor.specs.declared.Status.{Status}
-use Rattle.processor.specs.declared.Status.TheVariants.{Going, Limit}
+use Rattle.processor.specs.declared.Status.TheVariants.{Going, Exit, Trap, Fault, Limit}
 use Rattle.processor.specs.Run.{Run, run_of, resumed, onward}
 use Rattle.emulator.specs.declared.run.Ended.{Ended}
 use Rattle.emulator.specs.Stands.{stands, Grows}
@@ -41,6 +41,14 @@ gone_on size room more n e b run {m} {x} em ex en limit so =
     ∙ so
 
 -- A run that stopped otherwise stays as it ended.
+
+pub not_resumed : (size room more : ℕ) (r : Run) (s : Status) → (s ≡ Limit → ⊥) → resumed size room more r s ≡ r
+not_resumed size room more r Going h = refl
+not_resumed size room more r Exit h = refl
+not_resumed size room more r (Trap t) h = refl
+not_resumed size room more r (Fault n) h = refl
+not_resumed size room more r Limit h = absurd (h refl)
+
 pub unchanged : (size room more : ℕ) (e : Ended) (b : Buffers) → e.logged ≤ length b.log → onward size room more (stood e b) ≡ stood e b
     → Holds (onward size room more (stood e b)) b b e
 unchanged size room more e b h so = record {

@@ -13,28 +13,29 @@ use Rattle.interpreter.proofs.Whole.{run_outcome, run_log, run_logged}
 use Rattle.elaboration.proofs.Accepted.{accepted}
 use Rattle.toolchain.specs.Interpretation.{Lent, lent, IsBlock, Interprets, Holds, no_block, no_room}
 use Rattle.toolchain.specs.Accepting.{Made, RunsWords, elements_of}
-use Rattle.toolchain.specs.declared.interpret.Interpreted.TheVariants as I
+use Rattle.toolchain.specs.declared.refusals.Refusal.TheVariants.{Input, Room}
+use Rattle.std.specs.Prelude.{Ok, Err}
 use Rattle.toolchain.proofs.Answering.{elements_are}
 
 module _ (core input : List ℕ) (k fuel room : ℕ) (before : Lent) (third : k ≡ elements_of core) where
-  pub wrong_block : (length input ≡ 4 * k → ⊥) → RunsWords core input fuel room before before (I.Refused 5 0)
+  pub wrong_block : (length input ≡ 4 * k → ⊥) → RunsWords core input fuel room before before (Err Input)
   unfolding Interprets
   wrong_block h = record { by = λ text w n e m. (no_block e m.accepted (λ (b : IsBlock m.program input). h (b ∙ ap (λ (i : ℕ). 4 * i) (sym (elements_are m third)))), refl) }
 
   block_is : length input ≡ 4 * k → {text : List ℕ} {n : ℕ} (m : Made text n core) → IsBlock m.program input
   block_is b m = b ∙ ap (λ (i : ℕ). 4 * i) (elements_are m third)
 
-  pub short_arrays : length input ≡ 4 * k → length before.arrays < k → RunsWords core input fuel room before before (I.Refused 6 0)
+  pub short_arrays : length input ≡ 4 * k → length before.arrays < k → RunsWords core input fuel room before before (Err Room)
   unfolding Interprets
   short_arrays b h = record { by = λ text w n e m. (no_room e m.accepted (block_is b m) (inl (subst (λ (i : ℕ). length before.arrays < i) (elements_are m third) h)), refl) }
 
-  pub short_log : length input ≡ 4 * k → length before.log < room → RunsWords core input fuel room before before (I.Refused 6 0)
+  pub short_log : length input ≡ 4 * k → length before.log < room → RunsWords core input fuel room before before (Err Room)
   unfolding Interprets
   short_log b h = record { by = λ text w n e m. (no_room e m.accepted (block_is b m) (inr h), refl) }
 
   pub ran : (r : Ran) (arrays' log' : List ℕ) → length input ≡ 4 * k → k ≤ length before.arrays → room ≤ length before.log → length log' ≡ length before.log →
       Runs core room fuel (words_of_bytes input) before.log r.outcome r.fuel r.logged arrays' log' →
-      RunsWords core input fuel room before (lent (arrays' ++ drop k before.arrays) log') (I.Ran r)
+      RunsWords core input fuel room before (lent (arrays' ++ drop k before.arrays) log') (Ok r)
   unfolding Interprets
   ran r arrays' log' b h l same x = record {
     by = λ text w n e m. record {

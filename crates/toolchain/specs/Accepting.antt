@@ -1,5 +1,5 @@
 -- What the entries' parts ensure: of a text, its program's words or its answer; of a program's words, the run.
-use Rattle.std.specs.Prelude.{ℕ, ◌≤◌, ◌≡◌, List, ◌++◌, length, get_or}
+use Rattle.std.specs.Prelude.{ℕ, ◌≤◌, ◌≡◌, List, ◌++◌, length, get_or, Result, Ok, Err}
 use Rattle.std.proofs.lemmas.List.Edits.{sets}
 use Rattle.language.specs.Tree.{Item}
 use Rattle.language.specs.Grammar.{Parses}
@@ -7,16 +7,12 @@ use Rattle.language.specs.Core.{Program}
 use Rattle.language.specs.Text.{Accepted}
 use Rattle.grammar.specs.Flat.{tree_words}
 use Rattle.flat.specs.Words.{words_of}
-use Rattle.toolchain.specs.Checking.{Work, Enough, Declined, core_room}
+use Rattle.toolchain.specs.Checking.{Enough, Declined, core_room}
 use Rattle.toolchain.specs.Interpretation.{Lent, Interprets}
-use Rattle.toolchain.specs.declared.accept.Accepting.{Accepting}
-use Rattle.toolchain.specs.declared.accept.Accepting.TheVariants.{Program as Words, Refused}
-use Rattle.toolchain.specs.declared.interpret.Interpreted.{Interpreted}
-use Rattle.toolchain.specs.declared.compile.Compiled.{Compiled}
-use Rattle.toolchain.specs.declared.compile.Compiled.TheVariants.{Image}
-use Rattle.toolchain.specs.declared.compile.Compiled.TheVariants as C
-use Rattle.compiler.specs.declared.Compiled as P
-use Rattle.compiler.specs.declared.Compiled.TheVariants as P'
+use Rattle.interpreter.specs.declared.Ran as I
+use Rattle.toolchain.specs.declared.work.Work.{Work}
+use Rattle.toolchain.specs.declared.refusals.Refusal.{Refusal}
+use Rattle.toolchain.specs.Refusals.{number_of, place_of}
 
 -- the text's program, whose n words stand first in the core's buffer
 pub record Made (text : List ℕ) (n : ℕ) (core : List ℕ) : Type 0 where
@@ -31,22 +27,17 @@ pub record Made (text : List ℕ) (n : ℕ) (core : List ℕ) : Type 0 where
 abbrev pub elements_of : List ℕ → ℕ
 elements_of core = get_or core 2 0
 
-abbrev pub AcceptCase : List ℕ → Accepting → List ℕ → Type 0
-AcceptCase text (Words n) core' = Made text n core'
-AcceptCase text (Refused n at) core' = Declined text n at
+abbrev pub AcceptCase : List ℕ → Result ℕ Refusal → List ℕ → Type 0
+AcceptCase text (Ok n) core' = Made text n core'
+AcceptCase text (Err r) core' = Declined text (number_of r) (place_of r)
 
-pub record Accepts (text : List ℕ) (r : Accepting) (core' : List ℕ) : Type 0 where
+pub record Accepts (text : List ℕ) (r : Result ℕ Refusal) (core' : List ℕ) : Type 0 where
   pub by : AcceptCase text r core'
 
 -- the same, for a tree's words that the text's tree has
-pub record Elaborated (text tree : List ℕ) (words : ℕ) (r : Accepting) (core' : List ℕ) : Type 0 where
+pub record Elaborated (text tree : List ℕ) (words : ℕ) (r : Result ℕ Refusal) (core' : List ℕ) : Type 0 where
   pub by : (items : List Item) (before : List ℕ) → Parses text items → tree ≡ sets before 0 (tree_words items) → words ≡ length (tree_words items) → AcceptCase text r core'
 
 -- the run of an accepted text's program, whatever text that is
-pub record RunsWords (core input : List ℕ) (fuel room : ℕ) (before after : Lent) (r : Interpreted) : Type 0 where
+pub record RunsWords (core input : List ℕ) (fuel room : ℕ) (before after : Lent) (r : Result I.Ran Refusal) : Type 0 where
   pub by : (text : List ℕ) (w : Work) (n : ℕ) → Enough w → Made text n core → Interprets text input fuel room w before after r
-
--- what the compiler says, as an answer
-abbrev pub told_of : P.Compiled → Compiled
-told_of (P'.Image n) = Image n
-told_of P'.TooLong = C.Refused 3 0

@@ -1,5 +1,5 @@
 -- Claims 1 and 2 of `check`: document 01 §1's answers to a text, the place that a refusal carries, and how many elements an accepted text's arrays have.
-use Rattle.std.specs.Prelude.{ℕ, ◌≤◌, Bool, true, false, ◌≡◌, List, length}
+use Rattle.std.specs.Prelude.{ℕ, ◌≤◌, ◌≡◌, List, length, Result, Ok, Err, ⊤}
 use Rattle.language.specs.Tree.{Place}
 use Rattle.language.specs.Tokens.{Answer.refused}
 use Rattle.language.specs.Core.{Program}
@@ -7,15 +7,12 @@ use Rattle.language.specs.Text.{Accepted, Unreadable, Broken}
 use Rattle.tokens.specs.Kinds.{token_room}
 use Rattle.grammar.specs.Flat.{tree_room}
 use Rattle.grammar.specs.Parse.{tree_of}
-use Rattle.toolchain.specs.declared.check.Answer.{Answer}
+use Rattle.toolchain.specs.declared.work.Work.{Work}
+use Rattle.toolchain.specs.declared.refusals.Refusal.{Refusal}
+use Rattle.toolchain.specs.declared.refusals.Refusal.TheVariants.{Room}
+use Rattle.toolchain.specs.Refusals.{number_of, place_of}
 
 -- Working room: four lent buffers, so many words each. What they hold before and afterwards is of no account.
-pub record Work : Type 0 where
-  pub tokens : ℕ
-  pub tree : ℕ
-  pub starts : ℕ
-  pub core : ℕ
-
 abbrev pub work : List ℕ → List ℕ → List ℕ → List ℕ → Work
 work a b c d = record { tokens = length a; tree = length b; starts = length c; core = length d }
 
@@ -32,10 +29,10 @@ pub record Enough (w : Work) : Type 0 where
   pub for_starts : starts_room ≤ w.starts
   pub for_core : core_room ≤ w.core
 
--- whether some of it is too short
-abbrev pub Lacks : Bool → Work → Type 0
-Lacks true w = Enough w → ⊥
-Lacks false w = Enough w
+-- it is enough, or refused where some of it is too short
+abbrev pub Suffices : Work → Result ⊤ Refusal → Type 0
+Suffices w (Ok u) = Enough w
+Suffices w (Err r) = (r ≡ Room) × (Enough w → ⊥)
 
 -- Document 01 §1: the refusals of a text. Each carries a place in the text: of an unreadable text that of the token at fault, or the text's length
 -- (`tree_of`); of a broken rule that which `elaborate` gives.
@@ -44,11 +41,11 @@ pub data Declined (text : List ℕ) : ℕ → Place → Type 0 where
   broken : {at : Place} → Broken text at → Declined text 2 at
 
 -- Its answers: 0 with the number of elements of all arrays, or a refusal.
-pub data Answered (text : List ℕ) : Answer → Type 0 where
-  accepted : {p : Program} → Accepted text p → Answered text (record { number = 0; place = 0; elements = p.elements })
-  declined : {n : ℕ} {at : Place} → Declined text n at → Answered text (record { number = n; place = at; elements = 0 })
+pub data Answered (text : List ℕ) : Result ℕ Refusal → Type 0 where
+  accepted : {p : Program} → Accepted text p → Answered text (Ok p.elements)
+  declined : {r : Refusal} → Declined text (number_of r) (place_of r) → Answered text (Err r)
 
 -- `check`: 6 where working room is too short, else the text's answer.
-pub record Checks (text : List ℕ) (w : Work) (r : Answer) : Type 0 where
+pub record Checks (text : List ℕ) (w : Work) (r : Result ℕ Refusal) : Type 0 where
   pub answers : Enough w → Answered text r
-  pub short : (Enough w → ⊥) → r ≡ record { number = 6; place = 0; elements = 0 }
+  pub short : (Enough w → ⊥) → r ≡ Err Room

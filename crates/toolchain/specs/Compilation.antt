@@ -1,5 +1,5 @@
 -- Claims 1 and 3 of `compile`: what it answers, and what it leaves in the image's buffer, whatever it is given.
-use Rattle.std.specs.Prelude.{ℕ, ◌≤◌, ◌<◌, ◌⊎◌, ◌≡◌, List, ◌++◌, length, drop}
+use Rattle.std.specs.Prelude.{ℕ, ◌≤◌, ◌<◌, ◌⊎◌, ◌≡◌, List, ◌++◌, length, drop, Result, Ok, Err}
 use Rattle.language.specs.Tree.{Place}
 use Rattle.language.specs.Core.{Program}
 use Rattle.language.specs.Text.{Accepted}
@@ -7,9 +7,10 @@ use Rattle.processor.specs.Image.{longest_code}
 use Rattle.claims.specs.Keeps.{Keeps}
 use Rattle.codegen.specs.Image.{image}
 use Rattle.codegen.specs.Costs.{costs}
-use Rattle.toolchain.specs.Checking.{Work, Enough, Declined}
-use Rattle.toolchain.specs.declared.compile.Compiled.{Compiled}
-use Rattle.toolchain.specs.declared.compile.Compiled.TheVariants.{Refused, Image}
+use Rattle.toolchain.specs.Checking.{Enough, Declined}
+use Rattle.toolchain.specs.declared.work.Work.{Work}
+use Rattle.toolchain.specs.declared.refusals.Refusal.{Refusal}
+use Rattle.toolchain.specs.Refusals.{number_of, place_of}
 
 -- The refusals: working room too short is 6 at once; else 1 or 2 for the text, and 3 where the image is longer than document 03 §5 lets it be, or than its buffer.
 pub data Refuses (text : List ℕ) (w : Work) (before : List ℕ) : ℕ → Place → Type 0 where
@@ -29,6 +30,6 @@ pub record Makes (text : List ℕ) (w : Work) (before : List ℕ) (n : ℕ) (aft
   pub keeps : Keeps costs program (image program)
 
 -- `compile`: a refusal, with the image's buffer as it was; or an image.
-unfoldable pub Compiles : List ℕ → Work → List ℕ → Compiled → List ℕ → Type 0
-Compiles text w before (Refused n at) after = Refuses text w before n at × (after ≡ before)
-Compiles text w before (Image n) after = Makes text w before n after
+unfoldable pub Compiles : List ℕ → Work → List ℕ → Result ℕ Refusal → List ℕ → Type 0
+Compiles text w before (Err r) after = Refuses text w before (number_of r) (place_of r) × (after ≡ before)
+Compiles text w before (Ok n) after = Makes text w before n after

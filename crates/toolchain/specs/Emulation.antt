@@ -1,12 +1,12 @@
 -- Claims 1 and 2 of the emulator: what `emulate` and `resume` answer, and what they leave in the lent buffers, whatever they are given.
-use Rattle.std.specs.Prelude.{ℕ, ◌-◌, ◌^◌, ◌≡◌, List, ◌++◌, leb, eqb, length, take, drop}
+use Rattle.std.specs.Prelude.{ℕ, ◌-◌, ◌^◌, ◌≡◌, List, ◌++◌, leb, eqb, length, take, drop, Result, Ok, Err}
 use Rattle.word.specs.Choice.{pick}
 use Rattle.processor.specs.Machine.{state, register_count, memory_bytes}
 use Rattle.processor.specs.Run.{Run, onward}
 use Rattle.processor.specs.Image.{Lent, accepted, answer_of, run_image}
 use Rattle.emulator.specs.declared.run.Ended.{Ended}
-use Rattle.toolchain.specs.declared.Outcome.{Outcome}
-use Rattle.toolchain.specs.declared.Outcome.TheVariants.{Refused, Ran}
+use Rattle.toolchain.specs.declared.refusals.Refusal.{Refusal}
+use Rattle.toolchain.specs.Refusals.{number_of}
 
 -- What is lent to be changed.
 pub record Buffers : Type 0 where
@@ -39,12 +39,12 @@ pub record Holds (run : Run) (before after : Buffers) (e : Ended) : Type 0 where
   pub log : after.log ≡ run.machine.log ++ drop (length run.machine.log) before.log
 
 -- What a call answers and leaves: the refusal that document 03 §5 gives, with every buffer as it was; or the run.
-abbrev pub Answers : ℕ → Run → Buffers → Buffers → Outcome → Type 0
-Answers answer run before after (Refused n) = (answer ≡ n) × (n ≡ accepted → ⊥) × (after ≡ before)
-Answers answer run before after (Ran e) = (answer ≡ accepted) × Holds run before after e
+abbrev pub Answers : ℕ → Run → Buffers → Buffers → Result Ended Refusal → Type 0
+Answers answer run before after (Err r) = (answer ≡ number_of r) × (number_of r ≡ accepted → ⊥) × (after ≡ before)
+Answers answer run before after (Ok e) = (answer ≡ accepted) × Holds run before after e
 
 -- `emulate`: the run of an image, from the start.
-unfoldable pub Emulates : List ℕ → List ℕ → ℕ → ℕ → Buffers → Buffers → Outcome → Type 0
+unfoldable pub Emulates : List ℕ → List ℕ → ℕ → ℕ → Buffers → Buffers → Result Ended Refusal → Type 0
 Emulates code input room limit before after o =
     Answers (answer_of (sizes (length code) (length input) before room)) (run_image code input room limit) before after o
 
@@ -67,6 +67,6 @@ unfoldable pub steps_more : ℕ → ℕ → ℕ
 steps_more limit steps = pick (leb limit (most_steps - steps)) limit (most_steps - steps)
 
 -- "A run with limit a, gone on with for b more, is the run with limit a + b" (§4): `onward` goes on where the limit stopped it, and only there.
-unfoldable pub Resumes : ℕ → Ended → ℕ → ℕ → Buffers → Buffers → Outcome → Type 0
+unfoldable pub Resumes : ℕ → Ended → ℕ → ℕ → Buffers → Buffers → Result Ended Refusal → Type 0
 Resumes size e room limit before after o =
     Answers (resume_answer (sizes size 0 before room) e.logged) (onward size room (steps_more limit e.steps) (stood e before)) before after o

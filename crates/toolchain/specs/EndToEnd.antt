@@ -1,6 +1,6 @@
 -- Claim 3 over the entries: what `interpret` says of a text and an input block, and what `emulate` says of the image that `compile` made of that text.
 -- A call of either is anything that its contract allows, with whatever buffers were lent.
-use Rattle.std.specs.Prelude.{ℕ, ◌+◌, ◌-◌, ◌*◌, ◌≤◌, ◌⊎◌, ◌≡◌, List, length, take, drop}
+use Rattle.std.specs.Prelude.{ℕ, ◌+◌, ◌-◌, ◌*◌, ◌≤◌, ◌⊎◌, ◌≡◌, List, length, take, drop, Ok}
 use Rattle.std.proofs.Math.Option.{some}
 use Rattle.word.specs.Bytes.{words_of_bytes}
 use Rattle.processor.specs.declared.Status.{Status}
@@ -13,12 +13,9 @@ use Rattle.interpreter.specs.Post.{outcome_of}
 use Rattle.claims.specs.Keeps.{stop_for, Begins}
 use Rattle.codegen.specs.Costs.{costs}
 use Rattle.toolchain.specs.Emulation.{Buffers, Emulates}
-use Rattle.toolchain.specs.Checking.{Work}
+use Rattle.toolchain.specs.declared.work.Work.{Work}
 use Rattle.toolchain.specs.Compilation.{Compiles}
 use Rattle.toolchain.specs.Interpretation.{Lent, Interprets}
-use Rattle.toolchain.specs.declared.Outcome.TheVariants as E
-use Rattle.toolchain.specs.declared.compile.Compiled.TheVariants.{Image}
-use Rattle.toolchain.specs.declared.interpret.Interpreted.TheVariants as T
 
 -- a call of `compile` that made an image of the text, and that image
 pub record Compiling (text : List ℕ) : Type 0 where
@@ -26,7 +23,7 @@ pub record Compiling (text : List ℕ) : Type 0 where
   pub before : List ℕ
   pub after : List ℕ
   pub size : ℕ
-  pub says : Compiles text work before (Image size) after
+  pub says : Compiles text work before (Ok size) after
 
 abbrev pub made : {text : List ℕ} → Compiling text → List ℕ
 made c = take c.size c.after
@@ -37,14 +34,14 @@ pub record Interpreting (text input : List ℕ) (room fuel : ℕ) : Type 0 where
   pub before : Lent
   pub after : Lent
   pub ran : I.Ran
-  pub says : Interprets text input fuel room work before after (T.Ran ran)
+  pub says : Interprets text input fuel room work before after (Ok ran)
 
 -- a call of `emulate` that ran the image
 pub record Emulating (image input : List ℕ) (room limit : ℕ) : Type 0 where
   pub before : Buffers
   pub after : Buffers
   pub ended : Ended
-  pub says : Emulates image input room limit before after (E.Ran ended)
+  pub says : Emulates image input room limit before after (Ok ended)
 
 -- what they left: the log, and the words of the arrays; and the fuel that was used
 

@@ -1,5 +1,5 @@
 -- Claims 1 and 2 of `interpret`: what it answers, and what it leaves in the lent buffers, whatever it is given.
-use Rattle.std.specs.Prelude.{ℕ, ◌*◌, ◌≤◌, ◌<◌, ◌⊎◌, ◌≡◌, List, ◌++◌, length, drop}
+use Rattle.std.specs.Prelude.{ℕ, ◌*◌, ◌≤◌, ◌<◌, ◌⊎◌, ◌≡◌, List, ◌++◌, length, drop, Result, Ok, Err}
 use Rattle.word.specs.Bytes.{words_of_bytes}
 use Rattle.language.specs.Tree.{Place}
 use Rattle.language.specs.Core.{Program}
@@ -7,9 +7,10 @@ use Rattle.language.specs.Text.{Accepted}
 use Rattle.language.specs.Meaning.{Run, run_of}
 use Rattle.interpreter.specs.declared.Ran as I
 use Rattle.interpreter.specs.Post.{outcome_of}
-use Rattle.toolchain.specs.Checking.{Work, Enough, Declined}
-use Rattle.toolchain.specs.declared.interpret.Interpreted.{Interpreted}
-use Rattle.toolchain.specs.declared.interpret.Interpreted.TheVariants.{Refused, Ran}
+use Rattle.toolchain.specs.Checking.{Enough, Declined}
+use Rattle.toolchain.specs.declared.work.Work.{Work}
+use Rattle.toolchain.specs.declared.refusals.Refusal.{Refusal}
+use Rattle.toolchain.specs.Refusals.{number_of, place_of}
 
 -- What is lent to be changed, working room apart.
 pub record Lent : Type 0 where
@@ -48,6 +49,6 @@ pub record Runs (text input : List ℕ) (fuel room : ℕ) (w : Work) (before aft
   pub holds : Holds (run_of program (words_of_bytes input) fuel room) program.elements before after r
 
 -- `interpret`: a refusal, with every buffer but working room as it was; or the run of the program on the block's words.
-unfoldable pub Interprets : List ℕ → List ℕ → ℕ → ℕ → Work → Lent → Lent → Interpreted → Type 0
-Interprets text input fuel room w before after (Refused n at) = Refuses text input room w before n at × (after ≡ before)
-Interprets text input fuel room w before after (Ran r) = Runs text input fuel room w before after r
+unfoldable pub Interprets : List ℕ → List ℕ → ℕ → ℕ → Work → Lent → Lent → Result I.Ran Refusal → Type 0
+Interprets text input fuel room w before after (Err r) = Refuses text input room w before (number_of r) (place_of r) × (after ≡ before)
+Interprets text input fuel room w before after (Ok r) = Runs text input fuel room w before after r

@@ -1,3 +1,4 @@
+pub mod Refusals
 pub mod Emulation
 pub mod Checking
 pub mod Interpretation

@@ -6,28 +6,20 @@ ghost use Rattle.toolchain.specs.Checking.{work as working};
 ghost use Rattle.toolchain.specs.Interpretation.{lent, Interprets};
 ghost use Rattle.toolchain.specs.Accepting.{RunsWords};
 
-use crate::accept::{Accepting, accept, elements as elements_of};
-use crate::work::lacking;
-use interpreter::run;
+use crate::accept::{accept, elements as elements_of};
+use crate::refusals::Refusal;
+use crate::work::Work;
+use interpreter::{Ran, run};
 use word::bytes::word_of;
 
-// What `interpret` answers: the number of a refusal and the place that it carries; or how the run ended.
-#[derive(Clone, Copy)]
-pub enum Interpreted {
-    Refused(u32, usize),
-    Ran(interpreter::Ran),
-}
-
-// The words of a block.
+// The words of a block. Each is made of its bytes by index, as `words_of_bytes` is defined: a zip with chunks would need a second law of the same.
 fn block_words(input: &[u8], arrays: &mut [u32])
     requires { length input.now ≡ 4 * length arrays.old }
     ensures { arrays.new ≡ words_of_bytes input.now }
 {
-    let mut i: usize = 0;
-    while i < arrays.len() {
+    for (i, word) in arrays.iter_mut().enumerate() {
         let at = 4 * i;
-        arrays[i] = word_of(input[at], input[at + 1], input[at + 2], input[at + 3]);
-        i += 1;
+        *word = word_of(input[at], input[at + 1], input[at + 2], input[at + 3]);
     }
 }
 
@@ -40,7 +32,7 @@ fn run_block(
     room: usize,
     fuel: u64,
     work: &mut [u32],
-) -> interpreter::Ran
+) -> Ran
     requires { (length input.now ≡ 4 * length arrays.old) × (room ≤ length log.old) × (working_room ≤ length work.old) }
     ensures { Runs core.now room fuel (words_of_bytes input.now) log.old result.outcome result.fuel result.logged arrays.new log.new }
 {
@@ -57,24 +49,24 @@ fn run_words(
     room: usize,
     fuel: u64,
     work: &mut [u32],
-) -> Interpreted
+) -> Result<Ran, Refusal>
     requires { working_room ≤ length work.old }
     ensures { RunsWords core.now input.now fuel room (lent arrays.old log.old) (lent arrays.new log.new) result }
 {
     let elements = elements_of(core) as usize;
     if input.len() != 4 * elements {
-        return Interpreted::Refused(5, 0);
+        return Err(Refusal::Input);
     }
     if arrays.len() < elements {
-        return Interpreted::Refused(6, 0);
+        return Err(Refusal::Room);
     }
     if log.len() < room {
-        return Interpreted::Refused(6, 0);
+        return Err(Refusal::Room);
     }
-    Interpreted::Ran(run_block(core, input, &mut arrays[..elements], log, room, fuel, work))
+    Ok(run_block(core, input, &mut arrays[..elements], log, room, fuel, work))
 }
 
-// The run of a text's program on an input block, with so much fuel and so much room for the log. Lent are a word for each element of the arrays, and a log of at
+// The run of a text's program on an input block, with so much fuel and so much room for the log: `room` is what the caller states, which may be less than the log has. Lent are a word for each element of the arrays, and a log of at
 // least `room` words; what lies beyond stays as it was.
 pub fn interpret(
     text: &[u8],
@@ -87,15 +79,10 @@ pub fn interpret(
     tree: &mut [u32],
     starts: &mut [u32],
     core: &mut [u32],
-) -> Interpreted
+) -> Result<Ran, Refusal>
     ensures { Interprets text.now input.now fuel room (working tokens.old tree.old starts.old core.old) (lent arrays.old log.old) (lent arrays.new log.new) result }
 {
-    if lacking(tokens.len(), tree.len(), starts.len(), core.len()) {
-        return Interpreted::Refused(6, 0);
-    }
-    let a = accept(text, tokens, tree, starts, core);
-    match a {
-        Accepting::Program(n) => run_words(core, input, arrays, log, room, fuel, tokens),
-        Accepting::Refused(number, place) => Interpreted::Refused(number, place),
-    }
+    Work::of(tokens, tree, starts, core).suffices()?;
+    accept(text, tokens, tree, starts, core)?;
+    run_words(core, input, arrays, log, room, fuel, tokens)
 }

@@ -11,31 +11,19 @@ use emulator::image::{answer, run_image};
 use emulator::run::{Ended, run};
 use processor::Status;
 
+mod refusals; // the answers that refuse
 pub mod work; // working room
 mod accept; // document 01 §2 to §4: a text's program
 pub mod check; // document 01 §1: the answer to a text
 pub mod interpret; // document 01 §5: the run of a text
 pub mod compile; // the image of a text
 
-// What `emulate` and `resume` answer: the number of a refusal (document 03 §5), or where the run ended.
-#[derive(Clone, Copy)]
-pub enum Outcome {
-    Refused(u32),
-    Ran(Ended),
-}
+pub use refusals::Refusal;
 
-// The sizes of memory and of the registers, named: a part of a slice that ends at a name is proved with no count up to it.
-fn memory_size() -> usize
-    ensures { result ≡ memory_bytes }
-{
-    0x200000
-}
+// The sizes of memory and of the registers.
+const MEMORY_BYTES: usize = 0x200000;
 
-fn registers_size() -> usize
-    ensures { result ≡ register_count }
-{
-    32
-}
+const REGISTER_COUNT: usize = 32;
 
 // The run of an image on the panel processor (document 03), from its start: memory is cleared, code and input block are placed, and the run
 // goes on until it stops or has made `limit` steps. Lent are 2 MiB of memory, 32 registers, and a log of at least `room` words; what lies
@@ -48,40 +36,33 @@ pub fn emulate(
     log: &mut [u32],
     room: usize,
     limit: u64,
-) -> Outcome
+) -> Result<Ended, Refusal>
     ensures { Emulates code.now input.now room limit (buffers memory.old registers.old log.old) (buffers memory.new registers.new log.new) result }
 {
-    let n = answer(
+    answer(
         code.len(),
         input.len(),
         memory.len(),
         registers.len(),
         log.len(),
         room,
-    );
-    if n != 0 {
-        return Outcome::Refused(n);
-    }
-    let m = memory_size();
-    let x = registers_size();
-    let e = run_image(
+    )?;
+    Ok(run_image(
         code,
         input,
-        &mut memory[..m],
-        &mut registers[..x],
+        &mut memory[..MEMORY_BYTES],
+        &mut registers[..REGISTER_COUNT],
         log,
         room,
         limit,
-    );
-    Outcome::Ran(e)
+    ))
 }
 
 // The steps that a run is gone on with for, so that all of them can be counted.
 fn steps_more(limit: u64, steps: u64) -> u64
     ensures { (result ≡ steps_more limit steps) × (steps + result < 2 ^ 64) }
 {
-    let most = 18446744073709551615 - steps;
-    if limit <= most { limit } else { most }
+    limit.min(u64::MAX - steps)
 }
 
 // A run that the limit stopped, gone on with.
@@ -97,12 +78,10 @@ fn go_on(
     requires { (size ≤ longest_code) × (memory_bytes ≤ length memory.old) × (register_count ≤ length registers.old) × (room ≤ length log.old) × (from.logged ≤ room) × (from.status ≡ Status.Limit) }
     ensures { Holds (onward size room (steps_more limit from.steps) (stood from (buffers memory.old registers.old log.old))) (buffers memory.old registers.old log.old) (buffers memory.new registers.new log.new) result }
 {
-    let m = memory_size();
-    let x = registers_size();
     let n = steps_more(limit, from.steps);
     run(
-        &mut memory[..m],
-        &mut registers[..x],
+        &mut memory[..MEMORY_BYTES],
+        &mut registers[..REGISTER_COUNT],
         log,
         room,
         size as u32,
@@ -123,22 +102,15 @@ pub fn resume(
     log: &mut [u32],
     room: usize,
     limit: u64,
-) -> Outcome
+) -> Result<Ended, Refusal>
     ensures { Resumes size from room limit (buffers memory.old registers.old log.old) (buffers memory.new registers.new log.new) result }
 {
-    let n = answer(size, 0, memory.len(), registers.len(), log.len(), room);
-    if n != 0 {
-        return Outcome::Refused(n);
-    }
+    answer(size, 0, memory.len(), registers.len(), log.len(), room)?;
     if room < from.logged {
-        return Outcome::Refused(6);
+        return Err(Refusal::Room);
     }
-    let status = from.status;
-    match status {
-        Status::Going => Outcome::Ran(from),
-        Status::Exit => Outcome::Ran(from),
-        Status::Trap(_) => Outcome::Ran(from),
-        Status::Fault(_) => Outcome::Ran(from),
-        Status::Limit => Outcome::Ran(go_on(size, from, memory, registers, log, room, limit)),
+    match from.status {
+        Status::Limit => Ok(go_on(size, from, memory, registers, log, room, limit)),
+        _ => Ok(from),
     }
 }

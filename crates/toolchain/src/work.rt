@@ -1,30 +1,50 @@
-// Working room: four buffers that every entry which takes a text is lent.
-ghost use Rattle.toolchain.specs.Checking.{Lacks};
+// Working room: four buffers that every entry which takes a text is lent. They stay parameters, as memory, registers and log do, since C lends them one by one.
+ghost use Rattle.std.specs.Prelude.{◌≡◌};
+ghost use Rattle.toolchain.specs.Checking.{work, Suffices};
 
-// How many words each has at least: for tokens, for a tree, for where its operands start, for the core program.
-pub const TOKENS_ROOM: usize = 196608;
+use crate::refusals::Refusal;
 
-pub const TREE_ROOM: usize = 524288;
+// How many words each has at least: for tokens, for a tree, for where its operands start, for the core program. What a part asks for is what it has room for.
+pub const TOKENS_ROOM: usize = tokens::TOKEN_ROOM;
 
-pub const STARTS_ROOM: usize = 131072;
+pub const TREE_ROOM: usize = grammar::TREE_ROOM;
 
-pub const CORE_ROOM: usize = 525315;
+pub const STARTS_ROOM: usize = declarations::whole::OPERANDS_ROOM;
 
-// Whether so many words are too few.
-pub fn lacking(tokens: usize, tree: usize, starts: usize, core: usize) -> bool
-    ensures { Lacks result (record { tokens = tokens; tree = tree; starts = starts; core = core }) }
-{
-    if tokens < TOKENS_ROOM {
-        return true;
+pub const CORE_ROOM: usize = declarations::whole::CORE_ROOM;
+
+// How many words each has. What they hold before and afterwards is of no account.
+#[derive(Clone, Copy, Debug, PartialEq, Eq)]
+pub struct Work {
+    pub tokens: usize,
+    pub tree: usize,
+    pub starts: usize,
+    pub core: usize,
+}
+
+impl Work {
+    pub fn of(tokens: &[u32], tree: &[u32], starts: &[u32], core: &[u32]) -> Work
+        ensures { result ≡ work tokens.now tree.now starts.now core.now }
+    {
+        Work {
+            tokens: tokens.len(),
+            tree: tree.len(),
+            starts: starts.len(),
+            core: core.len(),
+        }
     }
-    if tree < TREE_ROOM {
-        return true;
+
+    // Refused where one of them is too short.
+    pub fn suffices(self) -> Result<(), Refusal>
+        ensures { Suffices self result }
+    {
+        if self.tokens < TOKENS_ROOM
+            || self.tree < TREE_ROOM
+            || self.starts < STARTS_ROOM
+            || self.core < CORE_ROOM
+        {
+            return Err(Refusal::Room);
+        }
+        Ok(())
     }
-    if starts < STARTS_ROOM {
-        return true;
-    }
-    if core < CORE_ROOM {
-        return true;
-    }
-    false
 }

@@ -10,4 +10,5 @@ pub mod WordBytes
 pub mod Differences
 pub mod Quotients
 pub mod Readings
+pub mod Casts
 pub mod Integers

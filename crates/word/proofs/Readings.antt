@@ -212,7 +212,7 @@ to_z_rem_s a b ha hb = by_order a (2 ^ 31)
     (λ (h : 2 ^ 31 ≤ a). rw (negative_is a h, magnitude_negative a h, to_z_negative a h ha, nat_abs_to_z b hb, one_more a ha)
     (to_z_minus ((2 ^ 32 - a) % magnitude b) (omega (arith, mod-le (2 ^ 32 - a) (magnitude b)))))
 
-of_z_quot : (a b : ℕ) → a < 2 ^ 32 → b < 2 ^ 32 → of_z (quot_z (to_z a) (to_z b)) ≡ quot_s a b
+pub of_z_quot : (a b : ℕ) → a < 2 ^ 32 → b < 2 ^ 32 → of_z (quot_z (to_z a) (to_z b)) ≡ quot_s a b
 unfolding quot_s
 of_z_quot a b ha hb = by_order a (2 ^ 31)
     (λ (h : a < 2 ^ 31). by_order b (2 ^ 31)

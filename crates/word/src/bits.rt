@@ -1,4 +1,6 @@
 // Words bit by bit, shifted, and made of fewer bits.
+#![tactic(auto, unfolding(crate::specs::Word::and_w, crate::specs::Word::or_w, crate::specs::Word::xor_w, crate::specs::Word::shl_w, crate::specs::Word::shr_u, crate::specs::Word::shr_s))]
+
 ghost use Rattle.std.specs.Prelude.{◌≡◌, ◌<◌, ◌≤◌, ◌^◌};
 ghost use Rattle.word.specs.Word.{and_w, or_w, xor_w, shl_w, shr_u, shr_s, sign_extend};
 
@@ -41,16 +43,12 @@ pub fn shift_right(a: u32, s: u32) -> u32
     a >> s
 }
 
-// To the right by s places, filling with the top bit: of a negative word the complement is shifted.
+// To the right by s places, filling with the top bit.
 pub fn shift_right_signed(a: u32, s: u32) -> u32
     requires { s < 32 }
     ensures { result ≡ shr_s a s }
 {
-    if a < 2147483648 {
-        a >> s
-    } else {
-        4294967295 - ((4294967295 - a) >> s)
-    }
+    (a.cast_signed() >> s).cast_unsigned()
 }
 
 // A number of so many bits, with copies of its top bit above it: the top bit is flipped and its weight taken away.

@@ -1,30 +1,28 @@
 // The two orders of words, and what a signed reading makes of one word.
+#![tactic(auto, unfolding(crate::specs::Word::negative, crate::specs::Word::magnitude, crate::specs::Word::lt_s, crate::specs::Word::lt_u, crate::specs::Word::bit_of))]
+
 ghost use Rattle.std.specs.Prelude.{◌≡◌};
 ghost use Rattle.word.specs.Word.{negative, magnitude, lt_s, lt_u, bit_of};
-
-use crate::arithmetic::neg;
 
 // Whether the word stands for a negative number.
 pub fn negative(a: u32) -> bool
     ensures { result ≡ negative a }
 {
-    2147483648 <= a
+    a.cast_signed() < 0
 }
 
 // The number that the word stands for, without its sign.
 pub fn magnitude(a: u32) -> u32
     ensures { result ≡ magnitude a }
 {
-    if a < 2147483648 { a } else { neg(a) }
+    a.cast_signed().unsigned_abs()
 }
 
-// The signed order: with their top bits flipped, words are in unsigned order as they were in signed order before.
+// The signed order.
 pub fn less_signed(a: u32, b: u32) -> bool
     ensures { result ≡ lt_s a b }
 {
-    let x = ((a as u64 + 2147483648) % 4294967296) as u32;
-    let y = ((b as u64 + 2147483648) % 4294967296) as u32;
-    x < y
+    a.cast_signed() < b.cast_signed()
 }
 
 // The unsigned order.
@@ -38,5 +36,5 @@ pub fn less_unsigned(a: u32, b: u32) -> bool
 pub fn bit_of(b: bool) -> u32
     ensures { result ≡ bit_of b }
 {
-    if b { 1 } else { 0 }
+    u32::from(b)
 }

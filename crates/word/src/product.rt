@@ -1,4 +1,4 @@
-// The upper halves of products. The unsigned one is made in 64 bits; a factor that stands for a negative number is 2 ^ 32
+// The upper halves of products. A factor that stands for a negative number is 2 ^ 32
 // less than it looks, so that the other factor is taken away from the upper half.
 ghost use Rattle.std.specs.Prelude.{◌≡◌};
 ghost use Rattle.word.specs.Word.{mulh_ss, mulh_su, mulh_uu};
@@ -9,7 +9,7 @@ use crate::arithmetic::sub;
 pub fn upper_unsigned(a: u32, b: u32) -> u32
     ensures { result ≡ mulh_uu a b }
 {
-    ((a as u64) * (b as u64) / 4294967296) as u32
+    a.carrying_mul(b, 0).1
 }
 
 // Of signed by unsigned.

@@ -9,7 +9,7 @@ returns-then-exits c = rw (c.in-Finished.is, sym c.exits.ensures ∙ c.if-exits.
 
 pub returns-else-exits : goal.returns-else-exits
 unfolding agrees_of
-returns-else-exits c = rw (c.in-Finished.is, sym c.exits.ensures ∙ c.if-exits.false)
+returns-else-exits c = rw (c.in-Finished.is, sym c.exits.ensures, c.if-exits.false)
 
 pub returns-then-traps_with : goal.returns-then-traps_with
 unfolding agrees_of
@@ -17,12 +17,12 @@ returns-then-traps_with c = rw (c.in-Trapped.is, sym c.traps_with.ensures ∙ c.
 
 pub returns-else-traps_with : goal.returns-else-traps_with
 unfolding agrees_of
-returns-else-traps_with c = rw (c.in-Trapped.is, sym c.traps_with.ensures ∙ c.if-traps_with.false)
+returns-else-traps_with c = rw (c.in-Trapped.is, sym c.traps_with.ensures, c.if-traps_with.false)
 
-pub returns-then-faults : goal.returns-then-faults
+pub returns-then-not-faults : goal.returns-then-not-faults
 unfolding agrees_of
-returns-then-faults c = rw (c.in-OutOfFuel.is, sym c.faults.ensures ∙ c.if-faults.true)
+returns-then-not-faults c = rw (c.in-OutOfFuel.is, sym c.faults.ensures, c.if-not-faults.true) c.begins.ensures
 
-pub returns-else-faults : goal.returns-else-faults
+pub returns-else-not-faults : goal.returns-else-not-faults
 unfolding agrees_of
-returns-else-faults c = rw (c.in-OutOfFuel.is, sym c.faults.ensures ∙ c.if-faults.false) c.begins.ensures
+returns-else-not-faults c = rw (c.in-OutOfFuel.is, sym c.faults.ensures, c.if-not-faults.false)

@@ -1,30 +1,29 @@
 -- The parts' promises, put together.
-use mathlib.Core.Logic.{inl, inr}
-use Rattle.grammar.proofs.Steps.{hit, miss}
-use Rattle.grammar.proofs.Whole.{read, refuse, short, few_tokens, held_words, start, whole, whole_fault, whole_end, untold}
+use mathlib.Core.Logic.{inr}
+use Rattle.grammar.proofs.Whole.{few_tokens, held_words, start, whole, whole_fault, whole_end, handed_on}
 use native.Mathlib.Omega.{arith}
 use Rattle.grammar.proofs.parse.Goals as goal
 
 pub returns-then-tree-lt-TREE_ROOM : goal.returns-then-tree-lt-TREE_ROOM
 returns-then-tree-lt-TREE_ROOM c = record { by = inr c.if-tree-lt-TREE_ROOM.true }
 
-pub items-r-requires : goal.items-r-requires
-items-r-requires c = start (read c.in-Read.is c.tokens-t.ensures) c.tokens-t.auto.room (omega (arith, c.if-tree-lt-TREE_ROOM.false))
+pub returns-in_err-count : goal.returns-in_err-count
+returns-in_err-count c = handed_on c.from_residual.ensures.1 c.in_err-count.ensures
 
-pub field-requires : goal.field-requires
-field-requires c = (held_words (read c.in-Read.is c.tokens-t.ensures) c.tokens-t.auto.room, few_tokens (read c.in-Read.is c.tokens-t.ensures), omega arith)
+pub invariant_of-ts : goal.invariant_of-ts
+invariant_of-ts c = record { few = few_tokens c.in_ok-count.ensures.by; held = held_words c.in_ok-count.ensures.by c.tokens.auto.room }
 
-pub returns-then-p-n : goal.returns-then-p-n
-returns-then-p-n c = whole_fault (read c.in-Read.is c.tokens-t.ensures) (miss c.in-Fault.is c.items-r.ensures) c.if-p-n.true c.field.ensures.0
+pub invariant_of-ts-then-p-count : goal.invariant_of-ts-then-p-count
+invariant_of-ts-then-p-count c = record { few = few_tokens c.in_ok-count.ensures.by; held = held_words c.in_ok-count.ensures.by c.tokens.auto.room }
 
-pub returns-in-Done : goal.returns-in-Done
-returns-in-Done c = whole (read c.in-Read.is c.tokens-t.ensures) (hit c.in-Done.is c.items-r.ensures)
+pub items-requires : goal.items-requires
+items-requires c = start c.in_ok-count.ensures.by c.tokens.auto.room (omega (arith, c.if-tree-lt-TREE_ROOM.false))
 
-pub returns-else-p-n : goal.returns-else-p-n
-returns-else-p-n c = whole_end (read c.in-Read.is c.tokens-t.ensures) (miss c.in-Fault.is c.items-r.ensures) c.if-p-n.false
+pub returns-then-p-count : goal.returns-then-p-count
+returns-then-p-count c = whole_fault c.in_ok-count.ensures.by c.in-Err.ensures.by c.if-p-count.true c.place.ensures
 
-pub returns-in-Refused : goal.returns-in-Refused
-returns-in-Refused c = untold (refuse c.in-Refused.is c.tokens-t.ensures)
+pub returns-in-Ok : goal.returns-in-Ok
+returns-in-Ok c = whole c.in_ok-count.ensures.by c.in-Ok.ensures.by
 
-pub returns-in-NoRoom : goal.returns-in-NoRoom
-returns-in-NoRoom c = record { by = inl (short c.in-NoRoom.is c.tokens-t.ensures) }
+pub returns-else-p-count : goal.returns-else-p-count
+returns-else-p-count c = whole_end c.in_ok-count.ensures.by c.in-Err.ensures.by c.if-p-count.false

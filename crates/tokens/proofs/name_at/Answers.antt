@@ -1,25 +1,28 @@
--- `name_at` meets its contract: the span is what lies before the name's end, and its kind says whether it is a name.
+-- `name_at` meets its contract: the span is as long as was counted, and its kind says whether it is a name.
+use mathlib.Core.Path.{◌≡◌, refl, ap}
+use Prim.Native.Nat.{◌+◌, ◌-◌}
+use Rattle.std.proofs.Common.{rules}
+use lib.ListN.{length, take, drop}
 use native.Mathlib.Omega.{arith}
-use Rattle.tokens.proofs.Looks.{name_some, name_long, name_plain, name_word}
+use Rattle.language.specs.Tokens.{in_name, span}
+use Rattle.tokens.proofs.KindNumbers.{other_number}
+use Rattle.tokens.proofs.Scan.{counts}
+use Rattle.tokens.proofs.Looks.{span_part, span_within, name_some, name_long, name_plain, name_word}
 use Rattle.tokens.proofs.name_at.Goals as goal
 
-pub name_end-requires : goal.name_end-requires
-name_end-requires c = omega (arith, c.requires.0)
-
-pub overflow_sub-n : goal.overflow_sub-n
-overflow_sub-n c = omega (arith, c.name_end.ensures.0)
-
 pub returns-then-n-gt-LONGEST_NAME : goal.returns-then-n-gt-LONGEST_NAME
-returns-then-n-gt-LONGEST_NAME c = name_long _ _ _ c.name_end.ensures.0 c.if-n-gt-LONGEST_NAME.true
+returns-then-n-gt-LONGEST_NAME c = name_long c.args.text.now c.args.i _ (counts in_name c.args.text.now c.args.i c.length_of-n.ensures (λ b r h p. search rules)) c.if-n-gt-LONGEST_NAME.true
 
-pub word_kind-k-requires : goal.word_kind-k-requires
-word_kind-k-requires c = (omega (arith, c.name_end.ensures.0, c.name_end.ensures.1), name_some _ _ c.requires.0 c.requires.1 c.name_end.ensures.0)
+pub slice_bounds-word_kind-end : goal.slice_bounds-word_kind-end
+slice_bounds-word_kind-end c = span_within in_name _ _ _ (omega (arith, c.requires.0)) (counts in_name c.args.text.now c.args.i c.length_of-n.ensures (λ b r h p. search rules))
 
-pub overflow_cast-result : goal.overflow_cast-result
-overflow_cast-result c = omega (arith, c.if-n-gt-LONGEST_NAME.false)
+pub word_kind-requires : goal.word_kind-requires
+word_kind-requires c =
+    let p : length (take (c.args.i + c.length_of-n.result - c.args.i) (drop c.args.i c.args.text.now)) ≡ length (span in_name (drop c.args.i c.args.text.now)) = ap length (span_part in_name _ _ _ (counts in_name c.args.text.now c.args.i c.length_of-n.ensures (λ b r h p. search rules))) in
+    omega (arith, p, counts in_name c.args.text.now c.args.i c.length_of-n.ensures (λ b r h p. search rules), name_some _ _ c.requires.0 c.requires.1 (counts in_name c.args.text.now c.args.i c.length_of-n.ensures (λ b r h p. search rules)))
 
-pub returns-then-k-eq-NAME : goal.returns-then-k-eq-NAME
-returns-then-k-eq-NAME c = name_plain _ _ _ c.name_end.ensures.0 _ c.if-n-gt-LONGEST_NAME.false c.word_kind-k.ensures c.if-k-eq-NAME.true
+pub returns-in-Name : goal.returns-in-Name
+returns-in-Name c = name_plain _ _ _ (counts in_name c.args.text.now c.args.i c.length_of-n.ensures (λ b r h p. search rules)) _ c.if-n-gt-LONGEST_NAME.false c.in-Name.ensures refl
 
-pub returns : goal.returns
-returns c = name_word _ _ _ c.name_end.ensures.0 _ c.if-n-gt-LONGEST_NAME.false c.word_kind-k.ensures c.if-k-eq-NAME.false
+pub returns-in_default : goal.returns-in_default
+returns-in_default c = name_word _ _ _ (counts in_name c.args.text.now c.args.i c.length_of-n.ensures (λ b r h p. search rules)) _ c.if-n-gt-LONGEST_NAME.false c.word_kind.ensures (other_number c.in_default.not-Name)

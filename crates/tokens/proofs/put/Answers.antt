@@ -11,4 +11,4 @@ pub bounds-room-at-3 : goal.bounds-room-at-3
 bounds-room-at-3 c = simp length-set (omega arith)
 
 pub returns : goal.returns
-returns c = rw (add-one, add-two)
+returns c = rw (add-one, add-two, c.from.ensures)

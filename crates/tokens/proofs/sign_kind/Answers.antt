@@ -27,11 +27,11 @@ returns-in-62 c = c.paired-in-62.ensures ∙ pair_kind (eqb 61 c.args.c) (Sign.g
 
 pub returns-in-38 : goal.returns-in-38
 unfolding sign_in kind_or_none find begins signs bytes sign_kind
-returns-in-38 c = c.paired-in-38.ensures ∙ pair_kind (eqb 38 c.args.c) (Sign.double_ampersand, "&&") none ∙ rw c.in-38.is
+returns-in-38 c = c.doubled.ensures ∙ pair_kind (eqb 38 c.args.c) (Sign.double_ampersand, "&&") none ∙ rw c.in-38.is
 
 pub returns-in-124 : goal.returns-in-124
 unfolding sign_in kind_or_none find begins signs bytes sign_kind
-returns-in-124 c = c.paired-in-124.ensures ∙ pair_kind (eqb 124 c.args.c) (Sign.double_bar, "||") none ∙ rw c.in-124.is
+returns-in-124 c = c.doubled-in-124.ensures ∙ pair_kind (eqb 124 c.args.c) (Sign.double_bar, "||") none ∙ rw c.in-124.is
 
 pub returns-in-43 : goal.returns-in-43
 unfolding sign_in kind_or_none find begins signs bytes sign_kind

@@ -1,6 +1,7 @@
 -- The sides' places, and a branch on them.
+use Rattle.emission.proofs.Tapes.{after_one}
 use Rattle.compiler.proofs.Placing.{compares}
 use Rattle.compiler.proofs.own.compare.Goals as goal
 
 pub returns : goal.returns
-returns c = record { compares = compares c.place_of-left.ensures c.place_of-right.ensures _ _ _ _ _ c.comparing.ensures.emits; within = c.comparing.ensures.within }
+returns c = after_one c.comparing.ensures (compares c.places-both.ensures.left c.places-both.ensures.right _ _ _ _ _ c.comparing.ensures.says)

@@ -1,12 +1,9 @@
 -- The last function first.
-use Prim.Native.Nat.{◌≤◌}
 use mathlib.Core.Path.{◌≡◌}
 use lib.ListN.{length}
+use Rattle.emission.specs.OnTape.{OnTape}
 use Rattle.compiler.proofs.Layouts.{Going}
 use Rattle.compiler.proofs.programs.bodies.Given as goal
 
 abbrev pub invariant-loop-f : goal.invariant-loop-f
-invariant-loop-f l = Going l.words l.entries l.n l.end l.initial.out l.f l.at l.out × (l.f ≤ l.n) × (l.at ≤ l.end) × (length l.out ≡ length l.initial.out) × (length l.scratch ≡ length l.initial.scratch)
-
-abbrev pub decreases-loop-f : goal.decreases-loop-f
-decreases-loop-f l = l.f
+invariant-loop-f l = OnTape (λ end us us' r. Going l.words l.entries l.n end us l.f r us') l.initial.tape l.tape × (length l.scratch ≡ length l.initial.scratch)

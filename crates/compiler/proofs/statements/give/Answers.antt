@@ -1,10 +1,11 @@
 -- The value, and then what is done with it.
 use native.Mathlib.Omega.{arith}
+use Rattle.emission.proofs.Tapes.{after_two}
 use Rattle.compiler.proofs.Stating.{statement_give}
 use Rattle.compiler.proofs.statements.give.Goals as goal
 
 pub answering-requires : goal.answering-requires
-answering-requires c = record { small = c.requires.0.small; room = omega (arith, c.requires.0.room, c.leaving-last.ensures.within) }
+answering-requires c = record { small = c.requires.0.small; room = omega (arith, c.requires.0.room, c.leaving.ensures.within) }
 
 pub returns : goal.returns
-returns c = record { statements = statement_give c.requires.1.0 c.requires.1.1 c.leaving-last.ensures.emits c.answering.ensures.answers; within = omega (arith, c.leaving-last.ensures.within, c.answering.ensures.within) }
+returns c = after_two c.leaving.ensures c.answering.ensures (statement_give c.requires.1.0 c.requires.1.1 c.leaving.ensures.says c.answering.ensures.says)

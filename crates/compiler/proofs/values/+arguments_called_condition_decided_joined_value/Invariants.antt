@@ -1,7 +1,7 @@
 -- Each function of the cycle emits the code of what ends where it looks. Measures: the position, then who calls whom.
 use Prim.Native.Nat.{◌*◌, ◌+◌, ◌≤◌}
-use mathlib.Core.Path.{◌≡◌}
-use lib.ListN.{length}
+use Rattle.emission.specs.OnTape.{OnTape}
+use Rattle.compiler.proofs.Calling as A
 use Rattle.compiler.proofs.Valuing as E
 use Rattle.compiler.proofs.Deciding as D
 use Rattle.compiler.proofs.values.+arguments_called_condition_decided_joined_value.Given as goal
@@ -25,13 +25,16 @@ abbrev pub decreases-value : goal.decreases-value
 decreases-value l = 8589934592 * l.end + 1
 
 abbrev pub invariant-condition-loop-e : goal.invariant-condition-loop-e
-invariant-condition-loop-e l = D.Heads l.words l.entries l.near l.d l.t l.end l.at l.to l.initial.out l.truth l.e l.p l.goal l.out × (l.e ≤ l.end) × (l.p ≤ l.at) × (l.p ≤ l.goal) × (l.goal ≤ 262144) × (length l.out ≡ length l.initial.out)
+invariant-condition-loop-e l = OnTape (λ at us us' r. D.Heads l.code.words.now l.code.entries.now l.code.near l.d l.t l.end at l.to us l.truth l.e r l.goal us') l.initial.tape l.tape × (l.e ≤ l.end) × (l.tape.at ≤ l.goal) × (l.goal ≤ 262144)
 
 abbrev pub decreases-condition-loop-e : goal.decreases-condition-loop-e
 decreases-condition-loop-e l = l.e
 
 abbrev pub invariant-value-loop-e : goal.invariant-value-loop-e
-invariant-value-loop-e l = E.Leads l.words l.entries l.near l.d l.end l.at l.initial.out l.e l.p l.out × (l.e ≤ l.end) × (l.p ≤ l.at) × (length l.out ≡ length l.initial.out)
+invariant-value-loop-e l = OnTape (λ at us us' r. E.Leads l.code.words.now l.code.entries.now l.code.near l.d l.end at us l.e r us') l.initial.tape l.tape × (l.e ≤ l.end)
 
 abbrev pub decreases-value-loop-e : goal.decreases-value-loop-e
 decreases-value-loop-e l = l.e
+
+abbrev pub invariant-arguments-loop-i : goal.invariant-arguments-loop-i
+invariant-arguments-loop-i l = OnTape (λ at us us' r. A.ArgumentsLeft l.code.words.now l.code.entries.now l.code.near l.end l.n l.d at us l.e l.i r us') l.initial.tape l.tape × (l.e ≤ l.end)

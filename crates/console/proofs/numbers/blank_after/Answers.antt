@@ -1,21 +1,24 @@
--- `blank_after` meets its contract: each test is one of the definition's.
-use mathlib.Core.Path.{sym}
-use borrow.Author.Tests.{eq-eqb, ne_eqb}
-use Rattle.console.specs.Numbers.{blank_after}
+-- `blank_after` meets its contract: each arm is the definition's clause.
+use mathlib.Core.Path.{sym, ap, ◌∙◌}
+use Rattle.console.specs.Numbers.{input, blank_after, blank_in, stored}
 use Rattle.console.proofs.numbers.blank_after.Goals as goal
 
-pub returns-then-r-eq-POSITIVE : goal.returns-then-r-eq-POSITIVE
-unfolding blank_after
-returns-then-r-eq-POSITIVE c = rw (eq-eqb c.args.r.phase 2 c.if-r-eq-POSITIVE.true) c.store.ensures
+pub returns-in-Between : goal.returns-in-Between
+unfolding blank_after blank_in
+returns-in-Between c = sym (ap (λ p. blank_in p (input c.args.r c.args.block.now)) c.in-Between.is)
 
-pub returns-then-r-eq-NEGATIVE : goal.returns-then-r-eq-NEGATIVE
-unfolding blank_after
-returns-then-r-eq-NEGATIVE c = rw (ne_eqb c.args.r.phase 2 c.if-r-eq-POSITIVE.false, eq-eqb c.args.r.phase 3 c.if-r-eq-NEGATIVE.true, sym c.neg.ensures) c.store-then-r-eq-NEGATIVE.ensures
+pub returns-in-Dash : goal.returns-in-Dash
+unfolding blank_after blank_in
+returns-in-Dash c = ap (λ r. input r c.args.block.now) c.at.ensures ∙ sym (ap (λ p. blank_in p (input c.args.r c.args.block.now)) c.in-Dash.is)
 
-pub returns-then-r-eq-DASH : goal.returns-then-r-eq-DASH
-unfolding blank_after
-returns-then-r-eq-DASH c = rw (ne_eqb c.args.r.phase 2 c.if-r-eq-POSITIVE.false, ne_eqb c.args.r.phase 3 c.if-r-eq-NEGATIVE.false, eq-eqb c.args.r.phase 1 c.if-r-eq-DASH.true, c.at.ensures)
+pub returns-in-Positive : goal.returns-in-Positive
+unfolding blank_after blank_in
+returns-in-Positive c = c.store.ensures ∙ sym (ap (λ p. blank_in p (input c.args.r c.args.block.now)) c.in-Positive.is)
 
-pub returns : goal.returns
-unfolding blank_after
-returns c = rw (ne_eqb c.args.r.phase 2 c.if-r-eq-POSITIVE.false, ne_eqb c.args.r.phase 3 c.if-r-eq-NEGATIVE.false, ne_eqb c.args.r.phase 1 c.if-r-eq-DASH.false)
+pub returns-in-Negative : goal.returns-in-Negative
+unfolding blank_after blank_in
+returns-in-Negative c = c.store-in-Negative.ensures ∙ (ap (λ n. stored n (input c.args.r c.args.block.now)) c.neg.ensures ∙ sym (ap (λ p. blank_in p (input c.args.r c.args.block.now)) c.in-Negative.is))
+
+pub returns-in-Faulty : goal.returns-in-Faulty
+unfolding blank_after blank_in
+returns-in-Faulty c = sym (ap (λ p. blank_in p (input c.args.r c.args.block.now)) c.in-Faulty.is)

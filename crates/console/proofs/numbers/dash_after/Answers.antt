@@ -1,12 +1,12 @@
--- `dash_after` meets its contract.
-use borrow.Author.Tests.{eq-eqb, ne_eqb}
-use Rattle.console.specs.Numbers.{dash_after}
+-- `dash_after` meets its contract: each arm is the definition's clause.
+use Rattle.console.specs.Numbers.{dash_after, dash_in}
+use Rattle.console.proofs.Phases.{dash_other}
 use Rattle.console.proofs.numbers.dash_after.Goals as goal
 
-pub returns-then-r-eq-BETWEEN : goal.returns-then-r-eq-BETWEEN
-unfolding dash_after
-returns-then-r-eq-BETWEEN c = rw (eq-eqb c.args.r.phase 0 c.if-r-eq-BETWEEN.true, c.at.ensures)
+pub returns-in-Between : goal.returns-in-Between
+unfolding dash_after dash_in
+returns-in-Between c = rw c.in-Between.is c.at.ensures
 
-pub returns : goal.returns
+pub returns-in_default : goal.returns-in_default
 unfolding dash_after
-returns c = rw (ne_eqb c.args.r.phase 0 c.if-r-eq-BETWEEN.false, c.at-2.ensures)
+returns-in_default c = rw (dash_other c.args.r.phase c.args.r c.in_default.not-Between) c.at-in_default.ensures

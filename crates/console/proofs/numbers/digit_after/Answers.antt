@@ -1,16 +1,13 @@
--- `digit_after` meets its contract: each test is one of the definition's.
-use borrow.Author.Tests.{eq-eqb, ne_eqb}
+-- `digit_after` meets its contract: each arm is the definition's clause.
+use mathlib.Core.Path.{◌∙◌}
 use Rattle.console.specs.Numbers.{digit_after}
+use Rattle.console.proofs.Phases.{digit_other, digit_negative}
 use Rattle.console.proofs.numbers.digit_after.Goals as goal
 
-pub returns-then-r-eq-DASH : goal.returns-then-r-eq-DASH
+pub returns-in-Dash : goal.returns-in-Dash
 unfolding digit_after
-returns-then-r-eq-DASH c = rw (eq-eqb c.args.r.phase 1 c.if-r-eq-DASH.true) c.more.ensures
+returns-in-Dash c = c.more.ensures ∙ digit_negative _ _ _ c.in-Dash.is
 
-pub returns-then-r-eq-NEGATIVE : goal.returns-then-r-eq-NEGATIVE
+pub returns-in_default : goal.returns-in_default
 unfolding digit_after
-returns-then-r-eq-NEGATIVE c = rw (ne_eqb c.args.r.phase 1 c.if-r-eq-DASH.false, eq-eqb c.args.r.phase 3 c.if-r-eq-NEGATIVE.true) c.more-then-r-eq-NEGATIVE.ensures
-
-pub returns : goal.returns
-unfolding digit_after
-returns c = rw (ne_eqb c.args.r.phase 1 c.if-r-eq-DASH.false, ne_eqb c.args.r.phase 3 c.if-r-eq-NEGATIVE.false) c.more-2.ensures
+returns-in_default c = rw (digit_other c.args.r.phase c.args.d c.args.r c.in_default.not-Dash c.in_default.not-Negative) c.more-in_default.ensures

@@ -5,8 +5,8 @@ use lib.ListN.{length, drop}
 use Rattle.language.specs.Tokens.{decimal}
 use Rattle.console.proofs.numbers.digits_value.Given as goal
 
-abbrev pub invariant-loop-i : goal.invariant-loop-i
-invariant-loop-i l = (decimal 0 l.word ≡ decimal l.n (drop l.i l.word)) × (l.n ≤ l.most) × (l.i ≤ length l.word)
+abbrev pub invariant-loop-b : goal.invariant-loop-b
+invariant-loop-b l = (decimal 0 l.word ≡ decimal l.n (drop l.b-index l.word)) × (l.n ≤ l.most) × (l.b-index ≤ length l.word)
 
-abbrev pub decreases-loop-i : goal.decreases-loop-i
-decreases-loop-i l = length l.word - l.i
+abbrev pub decreases-loop-b : goal.decreases-loop-b
+decreases-loop-b l = length l.word - l.b-index

@@ -1,12 +1,7 @@
--- `is_digit` meets its contract.
-use borrow.Author.Tests.{le-leb, lt-leb}
-use Rattle.language.specs.Tokens.{is_digit}
+-- `is_digit` meets its contract: the library's test is the definition's.
+use mathlib.Core.Path.{◌∙◌}
+use Rattle.console.proofs.Compared.{in_digits}
 use Rattle.console.proofs.numbers.is_digit.Goals as goal
 
-pub returns-then-b-lt48 : goal.returns-then-b-lt48
-unfolding is_digit
-returns-then-b-lt48 c = rw (lt-leb 48 _ c.if-b-lt48.true)
-
 pub returns : goal.returns
-unfolding is_digit
-returns c = rw (le-leb 48 _ c.if-b-lt48.false)
+returns c = c.is_ascii_digit.ensures.value ∙ in_digits _

@@ -1,7 +1,8 @@
 -- By the name, the kind and the sizes.
-use mathlib.Core.Path.{refl}
+use mathlib.Core.Path.{refl, sym, ◌∙◌}
 use native.Mathlib.Omega.{arith}
 use Rattle.declarations.proofs.Declaring as L
+use borrow.Author.Tests.{eqb-true, eqb-false}
 use Rattle.declarations.proofs.globals.declare.Goals as goal
 
 pub overflow_add-g : goal.overflow_add-g
@@ -17,10 +18,10 @@ pub array_fits-requires : goal.array_fits-requires
 array_fits-requires c = c.requires.2.elements
 
 pub returns-then-not-array_fits : goal.returns-then-not-array_fits
-returns-then-not-array_fits c = L.declare_array_off _ _ _ _ _ _ _ c.requires.2 c.word-at.ensures c.word-kind.ensures c.word-n.ensures c.if-kind-eq-ARRAY.true c.array_fits.ensures c.if-not-array_fits.true
+returns-then-not-array_fits c = L.declare_array_off _ _ _ _ _ _ _ c.requires.2 c.word-at.ensures refl c.word-n.ensures (eqb-true _ _ (sym c.is_array.ensures ∙ c.if-is_array.true)) c.array_fits.ensures c.if-not-array_fits.true
 
-pub overflow_cast-p : goal.overflow_cast-p
-overflow_cast-p c = omega (arith, c.requires.1)
+pub overflow_cast-header : goal.overflow_cast-header
+overflow_cast-header c = omega (arith, c.requires.1)
 
 pub add-requires : goal.add-requires
 add-requires c = (omega (arith, c.requires.2.arrays, c.requires.2.functions), omega (arith, c.requires.0, (L.array_below _ _ _ c.array_fits.ensures c.if-not-array_fits.false).0, c.requires.2.functions))
@@ -28,17 +29,14 @@ add-requires c = (omega (arith, c.requires.2.arrays, c.requires.2.functions), om
 pub overflow_add-result : goal.overflow_add-result
 overflow_add-result c = omega (arith, c.requires.2.arrays)
 
-pub overflow_add-result-then-kind-eq-ARRAY : goal.overflow_add-result-then-kind-eq-ARRAY
-overflow_add-result-then-kind-eq-ARRAY c = omega (arith, (L.array_below _ _ _ c.array_fits.ensures c.if-not-array_fits.false).1)
+pub overflow_add-result-then-is_array : goal.overflow_add-result-then-is_array
+overflow_add-result-then-is_array c = omega (arith, (L.array_below _ _ _ c.array_fits.ensures c.if-not-array_fits.false).1)
 
-pub returns-then-kind-eq-ARRAY : goal.returns-then-kind-eq-ARRAY
-returns-then-kind-eq-ARRAY c = L.declare_array_on _ _ _ _ _ _ _ c.requires.2 c.word-at.ensures c.word-kind.ensures c.word-n.ensures c.is_new.ensures c.if-not-is_new.false c.if-kind-eq-ARRAY.true c.array_fits.ensures c.if-not-array_fits.false c.add.ensures
+pub returns-then-is_array : goal.returns-then-is_array
+returns-then-is_array c = L.declare_array_on _ _ _ _ _ _ _ c.requires.2 c.word-at.ensures refl c.word-n.ensures c.is_new.ensures c.if-not-is_new.false (eqb-true _ _ (sym c.is_array.ensures ∙ c.if-is_array.true)) c.array_fits.ensures c.if-not-array_fits.false c.add.ensures
 
 pub returns-then-not-function_fits : goal.returns-then-not-function_fits
-returns-then-not-function_fits c = L.declare_function_off _ _ _ _ _ _ _ c.requires.2 c.word-at.ensures c.word-kind.ensures c.word-n.ensures c.if-kind-eq-ARRAY.false c.function_fits.ensures c.if-not-function_fits.true
-
-pub overflow_cast-p-2 : goal.overflow_cast-p-2
-overflow_cast-p-2 c = omega (arith, c.requires.1)
+returns-then-not-function_fits c = L.declare_function_off _ _ _ _ _ _ _ c.requires.2 c.word-at.ensures refl c.word-n.ensures (eqb-false _ _ (sym c.is_array.ensures ∙ c.if-is_array.false)) c.function_fits.ensures c.if-not-function_fits.true
 
 pub add-requires-2 : goal.add-requires-2
 add-requires-2 c = (omega (arith, c.requires.2.arrays, c.requires.2.functions), omega (arith, c.requires.0, c.requires.2.arrays, L.function_below _ _ c.function_fits.ensures c.if-not-function_fits.false))
@@ -47,4 +45,4 @@ pub overflow_add-result-2 : goal.overflow_add-result-2
 overflow_add-result-2 c = omega (arith, c.requires.2.functions)
 
 pub returns : goal.returns
-returns c = L.declare_function_on _ _ _ _ _ _ _ c.requires.2 c.word-at.ensures c.word-kind.ensures c.word-n.ensures c.is_new.ensures c.if-not-is_new.false c.if-kind-eq-ARRAY.false c.function_fits.ensures c.if-not-function_fits.false c.add-2.ensures
+returns c = L.declare_function_on _ _ _ _ _ _ _ c.requires.2 c.word-at.ensures refl c.word-n.ensures c.is_new.ensures c.if-not-is_new.false (eqb-false _ _ (sym c.is_array.ensures ∙ c.if-is_array.false)) c.function_fits.ensures c.if-not-function_fits.false c.add-2.ensures

@@ -6,7 +6,7 @@ use Rattle.declarations.proofs.Declaring as L
 use Rattle.declarations.proofs.globals.declare_all.Given as goal
 
 abbrev pub invariant-loop-p : goal.invariant-loop-p
-invariant-loop-p l = L.Declaring l.text l.tree l.words l.p l.globals l.arrays l.elements l.functions × (length l.globals ≡ length l.initial.globals)
+invariant-loop-p l = L.Declaring l.text l.tree l.words l.p l.globals l.tally.arrays l.tally.elements l.tally.functions × (length l.globals ≡ length l.initial.globals)
 
 abbrev pub decreases-loop-p : goal.decreases-loop-p
 decreases-loop-p l = l.words - l.p

@@ -8,4 +8,4 @@ use Rattle.agreement.proofs.Comparing.{parts}
 use Rattle.doorlang.proofs.compare.agrees.Goals as goal
 
 pub returns : goal.returns
-returns c = c.agree.ensures ∙ parts c.args.log.now c.args.arrays.now c.args.logged.now c.args.memory.now data_start c.args.size c.at_most-from.result _ _ _ _ _ (c.at_most-from.result + c.at_most.result - c.at_most-from.result) c.at_most-l.ensures c.at_most-a.ensures c.at_most-k.ensures (c.at_most-from.ensures ∙ ap (λ (n : ℕ). min n (length c.args.memory.now)) c.arrays_start.ensures) (omega (arith, c.at_most.ensures))
+returns c = c.agree.ensures ∙ parts c.args.text.log.now c.args.text.arrays.now c.args.image.log.now c.args.image.memory.now data_start c.args.size c.min-from.result _ _ _ _ _ (c.min-from.result + c.min.result - c.min-from.result) c.min-l.ensures c.min-a.ensures c.min-k.ensures (c.min-from.ensures ∙ ap (λ (n : ℕ). min n (length c.args.image.memory.now)) c.arrays_start.ensures) (omega (arith, c.min.ensures))

@@ -1,7 +1,7 @@
 -- One instruction.
-use native.Mathlib.Omega.{arith}
+use Rattle.emission.proofs.Tapes.{after_one}
 use Rattle.emission.proofs.Ends.{asks}
 use Rattle.emission.proofs.functions.ecall.Goals as goal
 
 pub returns : goal.returns
-returns c = record { emits = asks c.put.ensures.puts; within = omega arith }
+returns c = after_one c.put.ensures (asks c.put.ensures.says)

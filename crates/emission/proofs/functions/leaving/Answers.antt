@@ -1,7 +1,7 @@
 -- What is laid piece by piece.
-use native.Mathlib.Omega.{arith}
+use Rattle.emission.proofs.Tapes.{after_two}
 use Rattle.emission.proofs.Ends.{leaves}
 use Rattle.emission.proofs.functions.leaving.Goals as goal
 
 pub returns : goal.returns
-returns c = record { emits = leaves c.put-last.ensures.puts c.load.ensures.emits_at; within = omega arith }
+returns c = after_two c.put.ensures c.load.ensures (leaves c.put.ensures.says c.load.ensures.says)

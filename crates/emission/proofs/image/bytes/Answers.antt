@@ -10,30 +10,15 @@ use native.Mathlib.Omega.{arith}
 use Rattle.emission.proofs.image.bytes.Goals as goal
 
 pub loop-i-init : goal.loop-i-init
-loop-i-init c = (refl, omega arith, bytes_none c.args.words.now c.args.image.now)
-
-pub offset_bounds-words-i : goal.offset_bounds-words-i
-offset_bounds-words-i c = omega arith
-
-pub bounds-words-i : goal.bounds-words-i
-bounds-words-i c = omega arith
+loop-i-init c = (refl, bytes_none c.args.words.now c.args.image.now)
 
 pub put_bytes-requires : goal.put_bytes-requires
 put_bytes-requires c = omega arith
 
-pub overflow_add-i : goal.overflow_add-i
-overflow_add-i c = omega arith
-
-pub loop-i-smaller : goal.loop-i-smaller
-loop-i-smaller c = omega arith
-
 pub loop-i-preserved : goal.loop-i-preserved
-loop-i-preserved c = (ap length c.put_bytes.ensures ∙ length-sets c.loop-i.image (4 * c.loop-i.i) (bytes_of (get_or c.args.words.now c.loop-i.i 0)) ∙ c.loop-i.invariant.0, omega arith, c.put_bytes.ensures ∙ ap (λ (l : List ℕ). sets l (4 * c.loop-i.i) (bytes_of (get_or c.args.words.now c.loop-i.i 0))) c.loop-i.invariant.2 ∙ bytes_more c.args.words.now c.args.image.now c.loop-i.i (omega arith) (omega arith) (c.loop-i.i + 1) (omega arith))
-
-pub shape_of-image : goal.shape_of-image
-shape_of-image c = c.loop-i.invariant.0
+loop-i-preserved c = (ap length c.put_bytes.ensures ∙ length-sets c.loop-i.image (4 * c.loop-i.i) (bytes_of (get_or c.args.words.now c.loop-i.i 0)) ∙ c.loop-i.invariant.0, c.put_bytes.ensures ∙ ap (λ (l : List ℕ). sets l (4 * c.loop-i.i) (bytes_of (get_or c.args.words.now c.loop-i.i 0))) c.loop-i.invariant.1 ∙ bytes_more c.args.words.now c.args.image.now c.loop-i.i (omega arith) (omega arith) (c.loop-i.i + 1) (omega arith))
 
 pub returns : goal.returns
 returns c =
     let end : c.loop-i.i ≡ c.args.n = omega arith in
-    c.loop-i.invariant.2 ∙ rw end
+    c.loop-i.invariant.1 ∙ rw end

@@ -1,7 +1,7 @@
 -- What is laid piece by piece.
-use native.Mathlib.Omega.{arith}
+use Rattle.emission.proofs.Tapes.{after_five}
 use Rattle.emission.proofs.Ends.{starts}
 use Rattle.emission.proofs.image.starting.Goals as goal
 
 pub returns : goal.returns
-returns c = record { emits = starts c.args.main c.exiting-last.ensures.emits c.reach-by.ensures c.put-called.ensures.puts c.put-asked.ensures.puts c.put-ended.ensures.puts c.put.ensures.puts; within = omega arith }
+returns c = after_five c.asking.ensures c.put.ensures c.put-2.ensures c.put-3.ensures c.put-4.ensures (starts c.args.main c.asking.ensures.says c.reach-by.ensures c.put.ensures.says c.put-2.ensures.says c.put-3.ensures.says c.put-4.ensures.says)

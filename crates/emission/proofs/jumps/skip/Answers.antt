@@ -1,11 +1,11 @@
 -- Near or far.
 use Prim.Native.Nat.{◌-◌}
-use native.Mathlib.Omega.{arith}
+use Rattle.emission.proofs.Tapes.{after_one, after_two}
 use Rattle.emission.proofs.Skips.{skip_near, skip_far}
 use Rattle.emission.proofs.jumps.skip.Goals as goal
 
-pub returns-then-near : goal.returns-then-near
-returns-then-near c = record { emits_for = skip_near c.args.to c.if-near.true c.requires.0 c.reach-by.ensures c.put.ensures.puts; within = omega arith }
+pub returns-then-way : goal.returns-then-way
+returns-then-way c = after_one c.put.ensures (skip_near c.args.way.to c.if-way.true c.requires c.reach-by.ensures c.put.ensures.says)
 
-pub returns : goal.returns
-returns c = record { emits_for = skip_far (c.args.to - c.args.at) c.args.c c.if-near.false c.opposite-other.ensures c.jump-last.ensures.emits c.onward-around.ensures c.put-2.ensures.puts; within = omega arith }
+pub returns-else-way : goal.returns-else-way
+returns-else-way c = after_two c.jump.ensures c.put-else-way.ensures (skip_far (c.args.way.to - c.args.tape.now.at) c.args.c c.if-way.false c.opposite-other.ensures c.jump.ensures.says c.onward-around.ensures c.put-else-way.ensures.says)

@@ -1,10 +1,10 @@
 -- In a register or in the frame.
-use native.Mathlib.Omega.{arith}
+use Rattle.emission.proofs.Tapes.{after_one, untouched}
 use Rattle.emission.proofs.Pieces.{keep_register, keep_frame}
 use Rattle.emission.proofs.places.keep.Goals as goal
 
-pub returns-then-d-lt-IN_REGISTERS : goal.returns-then-d-lt-IN_REGISTERS
-returns-then-d-lt-IN_REGISTERS c = record { emits = keep_register c.if-d-lt-IN_REGISTERS.true; within = omega arith }
+pub returns-else-d-ge-IN_REGISTERS : goal.returns-else-d-ge-IN_REGISTERS
+returns-else-d-ge-IN_REGISTERS c = untouched (keep_register c.if-d-ge-IN_REGISTERS.false)
 
-pub returns : goal.returns
-returns c = record { emits = keep_frame c.if-d-lt-IN_REGISTERS.false c.store.ensures.emits_at; within = omega arith }
+pub returns-then-d-ge-IN_REGISTERS : goal.returns-then-d-ge-IN_REGISTERS
+returns-then-d-ge-IN_REGISTERS c = after_one c.store.ensures (keep_frame c.if-d-ge-IN_REGISTERS.true c.store.ensures.says)

@@ -1,12 +1,13 @@
 -- By one branch or not.
 use Prim.Native.Nat.{◌-◌}
-use native.Mathlib.Omega.{arith}
-use Rattle.emission.specs.Macros.{placed, strict_of}
+use Rattle.flat.specs.Numbers.{strict_of}
+use Rattle.emission.specs.Macros.{placed}
+use Rattle.emission.proofs.Tapes.{after_one, after_two}
 use Rattle.emission.proofs.Strictly.{decides_one, decides}
 use Rattle.emission.proofs.strict.deciding.Goals as goal
 
-pub returns-in-One : goal.returns-in-One
-returns-in-One c = record { emits_any = decides_one c.args.near c.args.t (strict_of c.args.o) (placed c.args.p) (placed c.args.q) c.args.d (c.args.to - c.args.at) c.relation-one.ensures c.in-One.is c.comparing.ensures.emits; within = omega arith }
+pub returns-in-Some : goal.returns-in-Some
+returns-in-Some c = after_one c.comparing.ensures (decides_one c.args.way.near c.args.way.when (strict_of c.args.o) (placed c.args.sides.left) (placed c.args.sides.right) c.args.d (c.args.way.to - c.args.tape.now.at) _ c.in-Some.ensures c.comparing.ensures.says)
 
 pub returns-in-None : goal.returns-in-None
-returns-in-None c = record { emits_any = decides c.args.near c.args.t (strict_of c.args.o) (placed c.args.p) (placed c.args.q) c.args.d (c.args.to - c.args.at) c.relation-one.ensures c.in-None.is c.testing-last.ensures.emits c.operating.ensures.emits; within = omega arith }
+returns-in-None c = after_two c.testing.ensures c.operating.ensures (decides c.args.way.near c.args.way.when (strict_of c.args.o) (placed c.args.sides.left) (placed c.args.sides.right) c.args.d (c.args.way.to - c.args.tape.now.at) c.in-None.ensures c.testing.ensures.says c.operating.ensures.says)

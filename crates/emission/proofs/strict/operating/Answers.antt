@@ -1,11 +1,12 @@
 -- By an immediate or not.
-use native.Mathlib.Omega.{arith}
-use Rattle.emission.specs.Macros.{placed, strict_of}
+use Rattle.flat.specs.Numbers.{strict_of}
+use Rattle.emission.specs.Macros.{placed}
+use Rattle.emission.proofs.Tapes.{after_one, after_three}
 use Rattle.emission.proofs.Strictly.{operates_with, operates}
 use Rattle.emission.proofs.strict.operating.Goals as goal
 
-pub returns-in-With : goal.returns-in-With
-returns-in-With c = record { emits = operates_with (strict_of c.args.o) (placed c.args.p) (placed c.args.q) c.args.d c.immediate-i.ensures c.in-With.is c.target_of-to.ensures c.source-from.ensures c.kept.ensures.emits_one; within = omega arith }
+pub returns-in-Some : goal.returns-in-Some
+returns-in-Some c = after_one c.kept.ensures (operates_with (strict_of c.args.o) (placed c.args.sides.left) (placed c.args.sides.right) c.args.d _ _ c.in-Some.ensures c.target_of-to.ensures c.source-from.ensures c.kept.ensures.says)
 
 pub returns-in-None : goal.returns-in-None
-returns-in-None c = record { emits = operates (strict_of c.args.o) (placed c.args.p) (placed c.args.q) c.args.d c.immediate-i.ensures c.in-None.is c.source-from.ensures c.source-other.ensures c.working-last.ensures.emits_for c.fetch-middle.ensures.emits c.fetch.ensures.emits; within = omega arith }
+returns-in-None c = after_three c.working.ensures c.fetch.ensures c.fetch-in-None.ensures (operates (strict_of c.args.o) (placed c.args.sides.left) (placed c.args.sides.right) c.args.d c.in-None.ensures c.source-from.ensures c.source-other.ensures c.working.ensures.says c.fetch.ensures.says c.fetch-in-None.ensures.says)

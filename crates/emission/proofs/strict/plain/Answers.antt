@@ -1,7 +1,7 @@
 -- What is laid piece by piece.
-use native.Mathlib.Omega.{arith}
+use Rattle.emission.proofs.Tapes.{after_two}
 use Rattle.emission.proofs.Strictly.{plain_laid}
 use Rattle.emission.proofs.strict.plain.Goals as goal
 
 pub returns : goal.returns
-returns c = record { emits_for = plain_laid c.args.d c.target_of-to.ensures c.keep-last.ensures.emits c.put.ensures.puts; within = omega arith }
+returns c = after_two c.keep.ensures c.put.ensures (plain_laid c.args.d c.target_of-to.ensures c.keep.ensures.says c.put.ensures.says)

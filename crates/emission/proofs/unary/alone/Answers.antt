@@ -1,11 +1,11 @@
 -- By the operator.
-use native.Mathlib.Omega.{arith}
 use Rattle.emission.specs.Macros.{placed}
+use Rattle.emission.proofs.Tapes.{after_one}
 use Rattle.emission.proofs.Unaries.{alone_negate, alone_not}
 use Rattle.emission.proofs.unary.alone.Goals as goal
 
-pub returns-then-o-eq-NEGATE : goal.returns-then-o-eq-NEGATE
-returns-then-o-eq-NEGATE c = record { emits = alone_negate (placed c.args.p) c.args.d c.target_of-to.ensures c.source-from.ensures c.if-o-eq-NEGATE.true c.kept.ensures.emits_one; within = omega arith }
+pub returns-in-Negate : goal.returns-in-Negate
+returns-in-Negate c = after_one c.kept.ensures (alone_negate (placed c.args.p) c.args.d c.target_of-to.ensures c.source-from.ensures c.in-Negate.is c.kept.ensures.says)
 
-pub returns : goal.returns
-returns c = record { emits = alone_not (placed c.args.p) c.args.d c.target_of-to.ensures c.source-from.ensures c.if-o-eq-NEGATE.false c.kept-2.ensures.emits_one; within = omega arith }
+pub returns-in-Not : goal.returns-in-Not
+returns-in-Not c = after_one c.kept-in-Not.ensures (alone_not (placed c.args.p) c.args.d c.target_of-to.ensures c.source-from.ensures c.in-Not.is c.kept-in-Not.ensures.says)

@@ -1,18 +1,8 @@
--- `put_word` meets its contract: the stores of the definition, in its order.
-use Rattle.processor.specs.Execute.{write_at}
-use lib.ListN.{length-set}
+-- Four bytes put into memory are the store of a word.
+use mathlib.Core.Path.{◌∙◌}
 use native.Mathlib.Omega.{arith}
+use Rattle.emulator.proofs.Stores.{word}
 use Rattle.emulator.proofs.memory.put_word.Goals as goal
 
-pub bounds-memory-i-2 : goal.bounds-memory-i-2
-bounds-memory-i-2 c = simp length-set (omega arith)
-
-pub bounds-memory-i-3 : goal.bounds-memory-i-3
-bounds-memory-i-3 c = simp length-set (omega arith)
-
-pub bounds-memory-i-4 : goal.bounds-memory-i-4
-bounds-memory-i-4 c = simp length-set (omega arith)
-
 pub returns : goal.returns
-unfolding write_at
-returns c = rw (c.byte0.ensures, c.byte1.ensures, c.byte2.ensures, c.byte3.ensures)
+returns c = c.put.ensures ∙ word c.args.memory.now c.args.i c.args.v (omega arith)

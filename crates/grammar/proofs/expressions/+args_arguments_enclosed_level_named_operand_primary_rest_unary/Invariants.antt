@@ -1,5 +1,5 @@
 -- Expressions: each way through is a law of the parser; the measure counts the steps inwards that are left, and the calls of one step.
-use Prim.Native.Nat.{◌+◌, ◌*◌}
+use Prim.Native.Nat.{◌+◌, ◌*◌, ◌-◌}
 use mathlib.Core.Path.{◌≡◌}
 use lib.ListN.{length}
 use Rattle.grammar.specs.Parse.{rest_of, exprs_of, levelled}
@@ -34,14 +34,8 @@ decreases-rest l = 8 * l.h + 2
 abbrev pub decreases-unary : goal.decreases-unary
 decreases-unary l = 8 * l.h + 1
 
-abbrev pub invariant-args-loop-left : goal.invariant-args-loop-left
-invariant-args-loop-left l = (Going args_form (λ tok. exprs_of tok (levelled tok l.h) 65536 l.d l.from) (λ tok. exprs_of tok (levelled tok l.h) l.left l.d l.i) l.ts l.n l.initial.out l.from l.start l.i l.at l.c l.out) × (l.c + l.left ≡ 65536) × (length l.out ≡ length l.initial.out)
+abbrev pub invariant-args-loop-count : goal.invariant-args-loop-count
+invariant-args-loop-count l = (Going args_form (λ tok. exprs_of tok (levelled tok l.h) 65536 l.d l.from) (λ tok. exprs_of tok (levelled tok l.h) (65536 - l.count) l.d l.i) l.ts.words.now l.ts.count l.initial.out l.from l.start l.i l.at l.count l.out) × (length l.out ≡ length l.initial.out)
 
-abbrev pub decreases-args-loop-left : goal.decreases-args-loop-left
-decreases-args-loop-left l = l.left
-
-abbrev pub invariant-rest-loop-left : goal.invariant-rest-loop-left
-invariant-rest-loop-left l = (Going tail_form (λ tok. rest_of tok (levelled tok l.h) l.most l.l l.d l.from) (λ tok. rest_of tok (levelled tok l.h) l.left l.l l.d l.i) l.ts l.n l.initial.out l.from l.start l.i l.at 0 l.out) × (length l.out ≡ length l.initial.out)
-
-abbrev pub decreases-rest-loop-left : goal.decreases-rest-loop-left
-decreases-rest-loop-left l = l.left
+abbrev pub invariant-rest-loop : goal.invariant-rest-loop
+invariant-rest-loop l = (Going tail_form (λ tok. rest_of tok (levelled tok l.h) l.most l.l l.d l.from) (λ tok. rest_of tok (levelled tok l.h) (l.most - l.counter) l.l l.d l.i) l.ts.words.now l.ts.count l.initial.out l.from l.start l.i l.at 0 l.out) × (length l.out ≡ length l.initial.out)

@@ -1,23 +1,18 @@
--- An expression and its semicolon.
-use Rattle.grammar.proofs.Steps.{hit, miss}
-use Rattle.grammar.proofs.StmtLaws.{ended_bad, ended_open, ended_done}
+-- An expression and its end.
+use mathlib.Core.Path.{refl}
 use native.Mathlib.Omega.{arith}
+use Rattle.grammar.proofs.Steps.{exits}
+use Rattle.grammar.proofs.StmtLaws.{ended_bad, ended_open, ended_done}
 use Rattle.grammar.proofs.expressions.ended.Goals as goal
 
-pub level-e-requires : goal.level-e-requires
-level-e-requires c = (c.requires, omega arith)
+pub level-requires : goal.level-requires
+level-requires c = (c.requires, omega arith)
 
-pub field-requires : goal.field-requires
-field-requires c = (c.requires.held, c.requires.few, omega arith)
+pub returns-in_err-whole : goal.returns-in_err-whole
+returns-in_err-whole c = exits c.from_residual.ensures.1 refl (ended_bad _ _ c.in_err-whole.ensures.by)
 
-pub overflow_add-result : goal.overflow_add-result
-overflow_add-result c = omega (arith, (hit c.in-Done.is c.level-e.ensures).within, c.requires.few)
+pub returns-in_err-expect : goal.returns-in_err-expect
+returns-in_err-expect c = exits c.from_residual-in_err-expect.ensures.1 c.in_err-expect.ensures.0 (ended_open _ _ c.in_ok-whole.ensures.by refl c.in_err-expect.ensures.1)
 
-pub returns-then-field-eq-SEMICOLON : goal.returns-then-field-eq-SEMICOLON
-returns-then-field-eq-SEMICOLON c = ended_done _ _ (hit c.in-Done.is c.level-e.ensures) c.field.ensures.0 c.if-field-eq-SEMICOLON.true (c.field.ensures.1 (omega (arith, c.if-field-eq-SEMICOLON.true)))
-
-pub returns-else-field-eq-SEMICOLON : goal.returns-else-field-eq-SEMICOLON
-returns-else-field-eq-SEMICOLON c = ended_open _ _ (hit c.in-Done.is c.level-e.ensures) c.field.ensures.0 c.if-field-eq-SEMICOLON.false
-
-pub returns-in-Fault : goal.returns-in-Fault
-returns-in-Fault c = ended_bad _ _ (miss c.in-Fault.is c.level-e.ensures)
+pub returns : goal.returns
+returns c = ended_done _ _ c.in_ok-whole.ensures.by refl c.in_ok-expect.ensures.0 c.in_ok-expect.ensures.1

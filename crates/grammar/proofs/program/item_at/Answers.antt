@@ -1,22 +1,14 @@
--- By the first word.
+-- The first word says which.
+use mathlib.Core.Path.{refl}
+use Rattle.grammar.proofs.Steps.{exits, yes, no}
 use Rattle.grammar.proofs.ItemLaws.{item_array, item_function, item_none}
-use native.Mathlib.Omega.{arith}
 use Rattle.grammar.proofs.program.item_at.Goals as goal
 
-pub field-k-requires : goal.field-k-requires
-field-k-requires c = (c.requires.held, c.requires.few, omega arith)
+pub returns-then-is : goal.returns-then-is
+returns-then-is c = item_array _ refl (yes c.if-is.ensures.same) c.array.ensures
 
-pub array-requires : goal.array-requires
-array-requires c = (c.requires, c.field-k.ensures.1 (omega (arith, c.if-k-eq-VAR.true)))
-
-pub returns-then-k-eq-VAR : goal.returns-then-k-eq-VAR
-returns-then-k-eq-VAR c = item_array _ c.field-k.ensures.0 c.if-k-eq-VAR.true c.array.ensures
-
-pub function-requires : goal.function-requires
-function-requires c = (c.requires, c.field-k.ensures.1 (omega (arith, c.if-k-eq-FN.true)))
-
-pub returns-then-k-eq-FN : goal.returns-then-k-eq-FN
-returns-then-k-eq-FN c = item_function _ c.field-k.ensures.0 c.if-k-eq-FN.true c.function.ensures
+pub returns-in_err-expect : goal.returns-in_err-expect
+returns-in_err-expect c = exits c.from_residual.ensures.1 c.in_err-expect.ensures.0 (item_none _ refl (no c.if-is.ensures.same) c.in_err-expect.ensures.1)
 
 pub returns : goal.returns
-returns c = item_none _ c.field-k.ensures.0 c.if-k-eq-VAR.false c.if-k-eq-FN.false
+returns c = item_function _ refl c.in_ok-expect.ensures.0 c.function.ensures

@@ -1,36 +1,24 @@
--- A loop over the program's items, up to its last token.
+-- An array or a function, as long as there are tokens.
 use mathlib.Core.Path.{refl, ◌∙◌}
-use Rattle.grammar.proofs.Steps.{hit, miss, room_on, begun}
-use Rattle.grammar.proofs.ItemLaws.{items_out, items_end, items_bad, items_again}
 use native.Mathlib.Omega.{arith}
+use Rattle.grammar.proofs.Steps.{exits, begun, room_on}
+use Rattle.grammar.proofs.ItemLaws.{items_out, items_end, items_bad, items_again}
 use Rattle.grammar.proofs.program.items.Goals as goal
 
-pub loop-left-init : goal.loop-left-init
-loop-left-init c = (begun c.requires.begins, refl, refl)
+pub loop-count-init : goal.loop-count-init
+loop-count-init c = (begun c.requires.begins, refl)
 
-pub shape_of-out-then-i-n : goal.shape_of-out-then-i-n
-shape_of-out-then-i-n c = c.loop-left.invariant.2
+pub item_at-requires : goal.item_at-requires
+item_at-requires c = room_on c.requires c.loop-count.invariant.0 c.loop-count.invariant.1
 
-pub returns-then-i-n : goal.returns-then-i-n
-returns-then-i-n c = items_end _ _ _ c.loop-left.invariant.0 c.loop-left-test.true (omega (arith, c.loop-left.invariant.1)) c.if-i-n.true
+pub returns-then-i-ts : goal.returns-then-i-ts
+returns-then-i-ts c = items_end _ _ _ c.loop-count.invariant.0 (omega arith) (omega arith) c.if-i-ts.true
 
-pub item_at-x-requires : goal.item_at-x-requires
-item_at-x-requires c = room_on c.requires c.loop-left.invariant.0 c.loop-left.invariant.2
+pub returns-in_err-one : goal.returns-in_err-one
+returns-in_err-one c = exits c.from_residual.ensures.1 refl (items_bad _ _ _ c.loop-count.invariant.0 (omega arith) c.if-i-ts.false c.in_err-one.ensures.by)
 
-pub overflow_add-c : goal.overflow_add-c
-overflow_add-c c = omega (arith, c.loop-left.invariant.1)
-
-pub shape_of-out-in-Fault : goal.shape_of-out-in-Fault
-shape_of-out-in-Fault c = c.item_at-x.auto.out ∙ c.loop-left.invariant.2
-
-pub returns-in-Fault : goal.returns-in-Fault
-returns-in-Fault c = items_bad _ _ _ c.loop-left.invariant.0 c.loop-left-test.true c.if-i-n.false (miss c.in-Fault.is c.item_at-x.ensures)
-
-pub loop-left-preserved : goal.loop-left-preserved
-loop-left-preserved c = (items_again _ _ _ c.loop-left.invariant.0 c.loop-left-test.true c.if-i-n.false (hit c.in-Done.is c.item_at-x.ensures), omega (arith, c.loop-left.invariant.1, c.loop-left-test.true), c.item_at-x.auto.out ∙ c.loop-left.invariant.2)
-
-pub shape_of-out : goal.shape_of-out
-shape_of-out c = c.loop-left.invariant.2
+pub loop-count-preserved : goal.loop-count-preserved
+loop-count-preserved c = (items_again _ _ _ c.loop-count.invariant.0 (omega arith) (omega arith) c.if-i-ts.false c.in_ok-one.ensures.by, c.item_at.auto.out ∙ c.loop-count.invariant.1)
 
 pub returns : goal.returns
-returns c = items_out _ _ _ c.loop-left.invariant.0 c.loop-left-test.false
+returns c = items_out _ _ _ c.loop-count.invariant.0 (omega arith)

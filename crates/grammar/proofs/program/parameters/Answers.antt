@@ -1,16 +1,11 @@
 -- None, or a list.
+use mathlib.Core.Path.{refl}
+use Rattle.grammar.proofs.Steps.{yes, no}
 use Rattle.grammar.proofs.ItemLaws.{parameters_none, parameters_some}
-use native.Mathlib.Omega.{arith}
 use Rattle.grammar.proofs.program.parameters.Goals as goal
 
-pub field-requires : goal.field-requires
-field-requires c = (c.requires.held, c.requires.few, omega arith)
-
-pub returns-then-field-eq-RIGHT_PAREN : goal.returns-then-field-eq-RIGHT_PAREN
-returns-then-field-eq-RIGHT_PAREN c = parameters_none _ c.field.ensures.0 c.if-field-eq-RIGHT_PAREN.true c.requires.begins
-
-pub params-requires : goal.params-requires
-params-requires c = c.requires
+pub returns-then-is : goal.returns-then-is
+returns-then-is c = parameters_none _ refl (yes c.if-is.ensures.same) c.requires.begins
 
 pub returns : goal.returns
-returns c = parameters_some _ c.field.ensures.0 c.if-field-eq-RIGHT_PAREN.false c.params.ensures
+returns c = parameters_some _ refl (no c.if-is.ensures.same) c.params.ensures

@@ -1,45 +1,24 @@
--- A loop over the list: what was read since, and then the rest.
+-- A parameter, and after a comma another.
 use mathlib.Core.Path.{refl, ◌∙◌}
-use Rattle.grammar.proofs.Steps.{hit, miss, room_on, begun}
-use Rattle.grammar.proofs.ItemLaws.{params_out, params_bad, params_last, params_again}
 use native.Mathlib.Omega.{arith}
+use Rattle.grammar.proofs.Steps.{exits, yes, no, begun, room_on}
+use Rattle.grammar.proofs.ItemLaws.{params_out, params_bad, params_last, params_again}
 use Rattle.grammar.proofs.program.params.Goals as goal
 
-pub loop-left-init : goal.loop-left-init
-loop-left-init c = (begun c.requires.begins, refl, refl)
+pub loop-count-init : goal.loop-count-init
+loop-count-init c = (begun c.requires.begins, refl)
 
-pub param-a-requires : goal.param-a-requires
-param-a-requires c = room_on c.requires c.loop-left.invariant.0 c.loop-left.invariant.2
+pub param-requires : goal.param-requires
+param-requires c = room_on c.requires c.loop-count.invariant.0 c.loop-count.invariant.1
 
-pub field-requires : goal.field-requires
-field-requires c = (c.requires.held, c.requires.few, omega arith)
+pub returns-in_err-one : goal.returns-in_err-one
+returns-in_err-one c = exits c.from_residual.ensures.1 refl (params_bad _ _ c.loop-count.invariant.0 (omega arith) c.in_err-one.ensures.by)
 
-pub overflow_add-result : goal.overflow_add-result
-overflow_add-result c = omega (arith, c.loop-left.invariant.1)
+pub returns-then-not-is : goal.returns-then-not-is
+returns-then-not-is c = params_last _ _ c.loop-count.invariant.0 (omega arith) (omega arith) c.in_ok-one.ensures.by refl (no c.if-not-is.ensures.same)
 
-pub shape_of-out-then-field-ne-COMMA : goal.shape_of-out-then-field-ne-COMMA
-shape_of-out-then-field-ne-COMMA c = c.param-a.auto.out ∙ c.loop-left.invariant.2
-
-pub returns-then-field-ne-COMMA : goal.returns-then-field-ne-COMMA
-returns-then-field-ne-COMMA c = params_last _ _ c.loop-left.invariant.0 c.loop-left-test.true (omega (arith, c.loop-left.invariant.1)) (hit c.in-Done.is c.param-a.ensures) c.field.ensures.0 c.if-field-ne-COMMA.true
-
-pub overflow_add-i : goal.overflow_add-i
-overflow_add-i c = omega (arith, (hit c.in-Done.is c.param-a.ensures).within, c.requires.few)
-
-pub overflow_add-c : goal.overflow_add-c
-overflow_add-c c = omega (arith, c.loop-left.invariant.1)
-
-pub shape_of-out-in-Fault : goal.shape_of-out-in-Fault
-shape_of-out-in-Fault c = c.param-a.auto.out ∙ c.loop-left.invariant.2
-
-pub returns-in-Fault : goal.returns-in-Fault
-returns-in-Fault c = params_bad _ _ c.loop-left.invariant.0 c.loop-left-test.true (miss c.in-Fault.is c.param-a.ensures)
-
-pub loop-left-preserved : goal.loop-left-preserved
-loop-left-preserved c = (params_again _ _ c.loop-left.invariant.0 c.loop-left-test.true (hit c.in-Done.is c.param-a.ensures) c.field.ensures.0 c.if-field-ne-COMMA.false (c.field.ensures.1 (omega (arith, c.if-field-ne-COMMA.false))), omega (arith, c.loop-left.invariant.1, c.loop-left-test.true), c.param-a.auto.out ∙ c.loop-left.invariant.2)
-
-pub shape_of-out : goal.shape_of-out
-shape_of-out c = c.loop-left.invariant.2
+pub loop-count-preserved : goal.loop-count-preserved
+loop-count-preserved c = (params_again _ _ c.loop-count.invariant.0 (omega arith) (omega arith) c.in_ok-one.ensures.by refl (yes c.if-not-is.ensures.same) (c.if-not-is.ensures.there refl), c.param.auto.out ∙ c.loop-count.invariant.1)
 
 pub returns : goal.returns
-returns c = params_out _ _ c.loop-left.invariant.0 c.loop-left-test.false
+returns c = params_out _ _ c.loop-count.invariant.0 (omega arith)

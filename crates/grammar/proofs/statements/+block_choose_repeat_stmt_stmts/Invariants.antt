@@ -1,5 +1,5 @@
 -- Statements and blocks: each way through is a law of the parser; the measure counts the blocks that may still nest.
-use Prim.Native.Nat.{◌+◌, ◌*◌}
+use Prim.Native.Nat.{◌+◌, ◌*◌, ◌-◌}
 use mathlib.Core.Path.{◌≡◌}
 use lib.ListN.{length}
 use Rattle.grammar.specs.Parse.{stmts_of, block_of}
@@ -22,8 +22,5 @@ decreases-stmt l = 8 * l.h + 2
 abbrev pub decreases-stmts : goal.decreases-stmts
 decreases-stmts l = 8 * l.h + 3
 
-abbrev pub invariant-stmts-loop-left : goal.invariant-stmts-loop-left
-invariant-stmts-loop-left l = (Going block_form (λ tok. stmts_of tok (block_of tok l.h) 65536 l.d l.from) (λ tok. stmts_of tok (block_of tok l.h) l.left l.d l.i) l.ts l.n l.initial.out l.from l.start l.i l.at l.c l.out) × (l.c + l.left ≡ 65536) × (length l.out ≡ length l.initial.out)
-
-abbrev pub decreases-stmts-loop-left : goal.decreases-stmts-loop-left
-decreases-stmts-loop-left l = l.left
+abbrev pub invariant-stmts-loop-count : goal.invariant-stmts-loop-count
+invariant-stmts-loop-count l = (Going block_form (λ tok. stmts_of tok (block_of tok l.h) 65536 l.d l.from) (λ tok. stmts_of tok (block_of tok l.h) (65536 - l.count) l.d l.i) l.ts.words.now l.ts.count l.initial.out l.from l.start l.i l.at l.count l.out) × (length l.out ≡ length l.initial.out)

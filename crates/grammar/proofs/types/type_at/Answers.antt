@@ -1,22 +1,14 @@
 -- One of the two words.
+use Rattle.grammar.proofs.Steps.{exits_typed, yes, no}
 use Rattle.grammar.proofs.StmtLaws.{type_int, type_bool, type_none}
-use native.Mathlib.Omega.{arith}
+use mathlib.Core.Path.{refl}
 use Rattle.grammar.proofs.types.type_at.Goals as goal
 
-pub field-k-requires : goal.field-k-requires
-field-k-requires c = (c.requires.0, c.requires.1, omega arith)
+pub returns-then-is : goal.returns-then-is
+returns-then-is c = type_int _ refl (yes c.if-is.ensures.same) (c.if-is.ensures.there refl)
 
-pub overflow_add-result : goal.overflow_add-result
-overflow_add-result c = omega (arith, c.field-k.ensures.1 (omega (arith, c.if-k-eq-INT.true)), c.requires.1)
-
-pub returns-then-k-eq-INT : goal.returns-then-k-eq-INT
-returns-then-k-eq-INT c = type_int _ c.field-k.ensures.0 c.if-k-eq-INT.true (c.field-k.ensures.1 (omega (arith, c.if-k-eq-INT.true)))
-
-pub overflow_add-result-then-k-eq-BOOL : goal.overflow_add-result-then-k-eq-BOOL
-overflow_add-result-then-k-eq-BOOL c = omega (arith, c.field-k.ensures.1 (omega (arith, c.if-k-eq-BOOL.true)), c.requires.1)
-
-pub returns-then-k-eq-BOOL : goal.returns-then-k-eq-BOOL
-returns-then-k-eq-BOOL c = type_bool _ c.field-k.ensures.0 c.if-k-eq-BOOL.true (c.field-k.ensures.1 (omega (arith, c.if-k-eq-BOOL.true)))
+pub returns-in_err-expect : goal.returns-in_err-expect
+returns-in_err-expect c = exits_typed _ c.from_residual.ensures.1 c.in_err-expect.ensures.0 (type_none _ refl (no c.if-is.ensures.same) c.in_err-expect.ensures.1)
 
 pub returns : goal.returns
-returns c = type_none _ c.field-k.ensures.0 c.if-k-eq-INT.false c.if-k-eq-BOOL.false
+returns c = type_bool _ refl c.in_ok-expect.ensures.0 c.in_ok-expect.ensures.1

@@ -1,31 +1,14 @@
 -- A name, a colon, a type.
+use Rattle.grammar.proofs.Steps.{exits_typed}
 use Rattle.grammar.proofs.StmtLaws.{typed_unnamed, typed_bare, typed_type}
-use native.Mathlib.Omega.{arith}
+use mathlib.Core.Path.{refl}
 use Rattle.grammar.proofs.types.typed.Goals as goal
 
-pub field-requires : goal.field-requires
-field-requires c = (c.requires.0, c.requires.1, omega arith)
+pub returns-in_err-expect : goal.returns-in_err-expect
+returns-in_err-expect c = exits_typed _ c.from_residual.ensures.1 c.in_err-expect.ensures.0 (typed_unnamed _ refl c.in_err-expect.ensures.1)
 
-pub returns-then-field-ne-NAME : goal.returns-then-field-ne-NAME
-returns-then-field-ne-NAME c = typed_unnamed _ c.field.ensures.0 c.if-field-ne-NAME.true
-
-pub overflow_add-i : goal.overflow_add-i
-overflow_add-i c = omega (arith, c.requires.1, c.requires.2)
-
-pub field-requires-2 : goal.field-requires-2
-field-requires-2 c = (c.requires.0, c.requires.1, omega arith)
-
-pub overflow_add-result : goal.overflow_add-result
-overflow_add-result c = omega (arith, c.requires.1, c.requires.2)
-
-pub returns-then-field-ne-COLON : goal.returns-then-field-ne-COLON
-returns-then-field-ne-COLON c = typed_bare _ c.field.ensures.0 c.if-field-ne-NAME.false c.field-2.ensures.0 c.if-field-ne-COLON.true
-
-pub overflow_add-i-2 : goal.overflow_add-i-2
-overflow_add-i-2 c = omega (arith, c.requires.1, c.requires.2)
-
-pub type_at-requires : goal.type_at-requires
-type_at-requires c = (c.requires.0, c.requires.1, omega (arith, c.field-2.ensures.1 (omega (arith, c.if-field-ne-COLON.false))))
+pub returns-in_err-expect-2 : goal.returns-in_err-expect-2
+returns-in_err-expect-2 c = exits_typed _ c.from_residual-in_err-expect-2.ensures.1 c.in_err-expect-2.ensures.0 (typed_bare _ refl c.in_ok-expect.ensures.0 refl c.in_err-expect-2.ensures.1)
 
 pub returns : goal.returns
-returns c = typed_type _ c.field.ensures.0 c.if-field-ne-NAME.false c.field-2.ensures.0 c.if-field-ne-COLON.false c.type_at.ensures
+returns c = typed_type _ refl c.in_ok-expect.ensures.0 refl c.in_ok-expect-2.ensures.0 c.type_at.ensures

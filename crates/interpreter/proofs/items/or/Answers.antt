@@ -1,13 +1,12 @@
 -- A left side other than 0 decides.
-use native.Mathlib.Omega.{arith}
 use Rattle.interpreter.proofs.Moving as L
 use Rattle.interpreter.proofs.items.or.Goals as goal
 
-pub returns-then-top-eq0 : goal.returns-then-top-eq0
-returns-then-top-eq0 c = λ xs. L.or_open c.requires _ _ c.top.ensures c.if-top-eq0.true c.below-m.ensures
-
-pub push-p-requires : goal.push-p-requires
-push-p-requires c = record { locals = c.requires.locals; operands = omega (arith, c.requires, c.below-m.ensures); room = c.requires.room }
+pub returns-in_err-h : goal.returns-in_err-h
+returns-in_err-h c = λ arrays. L.move_err c.requires _ c.from_residual.ensures.1 (L.or_decided c.requires _ _ c.top.ensures c.if-top-eq0.false c.saturating_sub-m.ensures c.in_err-h.ensures)
 
 pub returns : goal.returns
-returns c = λ xs. L.or_decided c.requires _ _ c.top.ensures c.if-top-eq0.false c.below-m.ensures c.push-p.ensures
+returns c = λ arrays. L.or_decided c.requires _ _ c.top.ensures c.if-top-eq0.false c.saturating_sub-m.ensures c.in_ok-h.ensures
+
+pub returns-then-top-eq0 : goal.returns-then-top-eq0
+returns-then-top-eq0 c = λ arrays. L.or_open c.requires _ _ c.top.ensures c.if-top-eq0.true c.saturating_sub-m.ensures

@@ -1,13 +1,12 @@
 -- The operator's value takes the operands' place, or it stops.
-use native.Mathlib.Omega.{arith}
 use Rattle.interpreter.proofs.Moving as L
 use Rattle.interpreter.proofs.items.two_sides.Goals as goal
 
-pub returns-in_default : goal.returns-in_default
-returns-in_default c = λ xs. L.strict_stops c.requires _ c.top-b.ensures c.below.ensures c.top-a.ensures c.strict-r.ensures (L.stopped c.strict-r.result c.in_default.in_default-own.keys2)
+pub returns-in_err-v : goal.returns-in_err-v
+returns-in_err-v c = λ arrays. L.move_err c.requires _ c.from_residual.ensures.1 (L.strict_stops c.requires _ c.top-b.ensures c.saturating_sub.ensures c.top-a.ensures c.in_err-v.ensures)
 
-pub push-p-requires : goal.push-p-requires
-push-p-requires c = record { locals = c.requires.locals; operands = omega (arith, c.requires, c.below-2.ensures); room = c.requires.room }
+pub returns-in_err-h : goal.returns-in_err-h
+returns-in_err-h c = λ arrays. L.move_err c.requires _ c.from_residual-in_err-h.ensures.1 (L.move_strict c.requires _ _ c.top-b.ensures c.saturating_sub.ensures c.top-a.ensures c.in_ok-v.ensures c.saturating_sub-2.ensures c.in_err-h.ensures)
 
 pub returns : goal.returns
-returns c = λ xs. L.move_strict c.requires _ _ c.top-b.ensures c.below.ensures c.top-a.ensures c.strict-r.ensures c.in-Goes.is c.below-2.ensures c.push-p.ensures
+returns c = λ arrays. L.move_strict c.requires _ _ c.top-b.ensures c.saturating_sub.ensures c.top-a.ensures c.in_ok-v.ensures c.saturating_sub-2.ensures c.in_ok-h.ensures

@@ -1,15 +1,17 @@
 -- By the expression, and by its type.
+use Rattle.grammar.specs.declared.tree.ValueType.TheVariants as K
+use Rattle.rules.proofs.Valued as V
 use Rattle.rules.proofs.Testing as L
 use Rattle.rules.proofs.blocks.condition.Goals as goal
 
-pub first_expression-r-requires : goal.first_expression-r-requires
-first_expression-r-requires c = c.requires
+pub first_expression-requires : goal.first_expression-requires
+first_expression-requires c = c.requires
 
-pub returns-then-not-same_type : goal.returns-then-not-same_type
-returns-then-not-same_type c = L.cond_wrong _ c.first_expression-r.ensures c.in-Type.is c.same_type.ensures c.if-not-same_type.true
+pub returns-in_err-ty : goal.returns-in_err-ty
+returns-in_err-ty c = rw (V.passed _ c.from_residual.ensures.1) (L.cond_fault _ c.first_expression.ensures c.in_err-ty.was)
 
-pub returns-else-not-same_type : goal.returns-else-not-same_type
-returns-else-not-same_type c = L.cond_fine _ c.first_expression-r.ensures c.in-Type.is c.same_type.ensures c.if-not-same_type.false
+pub returns-then-ne : goal.returns-then-ne
+returns-then-ne c = L.cond_wrong _ c.first_expression.ensures c.in_ok-ty.was (V.unlike _ K.Bool c.ne.ensures c.if-ne.true)
 
-pub returns-in-Broken : goal.returns-in-Broken
-returns-in-Broken c = L.cond_fault _ c.first_expression-r.ensures c.in-Broken.is
+pub returns : goal.returns
+returns c = L.cond_fine _ c.first_expression.ensures c.in_ok-ty.was (V.alike _ K.Bool c.ne.ensures c.if-ne.false)

@@ -1,13 +1,9 @@
 -- By the kind.
-use mathlib.Core.Path.{refl}
-use Rattle.rules.proofs.Arms as L
+use Rattle.rules.proofs.Sorts as L
 use Rattle.rules.proofs.blocks.holds_blocks.Goals as goal
 
-pub returns-then-k-eq-CHOOSE : goal.returns-then-k-eq-CHOOSE
-returns-then-k-eq-CHOOSE c = L.holds_first _ c.if-k-eq-CHOOSE.true
+pub returns-in-Choose : goal.returns-in-Choose
+returns-in-Choose c = L.holds_some _ c.in-Choose.is
 
-pub returns-then-k-eq-WHILE : goal.returns-then-k-eq-WHILE
-returns-then-k-eq-WHILE c = L.holds_second _ c.if-k-eq-CHOOSE.false c.if-k-eq-WHILE.true
-
-pub returns : goal.returns
-returns c = L.holds_last _ c.if-k-eq-CHOOSE.false c.if-k-eq-WHILE.false refl
+pub returns-in_default : goal.returns-in_default
+returns-in_default c = L.holds_none _ c.in_default.not-Choose c.in_default.not-While c.in_default.not-When

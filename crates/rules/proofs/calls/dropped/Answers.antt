@@ -1,11 +1,11 @@
 -- By the function that is found.
-use mathlib.Core.Path.{◌∙◌}
-use Rattle.rules.proofs.Looking.{denied, granted}
+use mathlib.Core.Path.{ap, ◌∙◌}
+use Rattle.rules.specs.Values.{made}
 use Rattle.rules.proofs.Running as L
 use Rattle.rules.proofs.calls.dropped.Goals as goal
 
-pub returns-then-not-f : goal.returns-then-not-f
-returns-then-not-f c = c.broken.ensures ∙ L.no_function _ _ _ _ _ _ _ _ _ _ c.find_function-f.ensures (denied _ c.if-not-f.true)
+pub returns-in_err-f : goal.returns-in_err-f
+returns-in_err-f c = ap made c.from_residual.ensures ∙ L.no_function _ _ _ _ _ c.in_err-f.ensures
 
 pub returns : goal.returns
-returns c = L.drops _ _ _ _ _ _ _ _ _ _ c.find_function-f.ensures (granted _ c.if-not-f.false) c.arguments.ensures
+returns c = L.drops _ _ _ _ _ c.in_ok-f.ensures c.arguments.ensures

@@ -10,8 +10,5 @@ decreases-ends_in_return l = 2 * (length l.tree.now - l.p) + 1
 abbrev pub decreases-returns : goal.decreases-returns
 decreases-returns l = 2 * (length l.tree.now - l.p)
 
-abbrev pub invariant-ends_in_return-loop-i : goal.invariant-ends_in_return-loop-i
-invariant-ends_in_return-loop-i l = L.Ending l.tree l.p l.n l.i l.at l.ends
-
-abbrev pub decreases-ends_in_return-loop-i : goal.decreases-ends_in_return-loop-i
-decreases-ends_in_return-loop-i l = l.n - l.i
+abbrev pub invariant-ends_in_return-loop : goal.invariant-ends_in_return-loop
+invariant-ends_in_return-loop l = L.Ending l.tree l.p l.n l.counter l.at l.ends

@@ -4,7 +4,4 @@ use Rattle.rules.specs.Tables.{part}
 use Rattle.rules.proofs.names.find_local.Given as goal
 
 abbrev pub invariant-loop-i : goal.invariant-loop-i
-invariant-loop-i l = L.Finding l.text l.locals l.count (part l.text l.a l.n) l.i
-
-abbrev pub decreases-loop-i : goal.decreases-loop-i
-decreases-loop-i l = l.i
+invariant-loop-i l = L.Finding l.text l.locals l.count (part l.text l.name.place l.name.length) l.i

@@ -1,20 +1,19 @@
--- By the entry that is found, and by the index's type.
-use mathlib.Core.Path.{◌∙◌}
-use Rattle.rules.specs.Post.{made}
-use Rattle.rules.specs.Tables.{type_of}
+-- By the array that is found, and by the index's type.
+use mathlib.Core.Path.{ap, ◌∙◌}
+use Rattle.rules.specs.Values.{made, held}
+use Rattle.grammar.specs.declared.tree.ValueType.TheVariants as K
+use Rattle.rules.proofs.Valued as V
 use Rattle.rules.proofs.Making as L
 use Rattle.rules.proofs.nodes.element.Goals as goal
 
-pub returns-then-i-eq0 : goal.returns-then-i-eq0
-returns-then-i-eq0 c = c.broken.ensures ∙ L.no_thing _ _ _ c.find_global-i.ensures c.if-i-eq0.true
+pub returns-in_err-array : goal.returns-in_err-array
+returns-in_err-array c = ap made c.from_residual.ensures ∙ L.no_thing _ c.args.name (held c.args.index) c.in_err-array.ensures
 
-pub returns-then-word-ne-ARRAY : goal.returns-then-word-ne-ARRAY
-returns-then-word-ne-ARRAY c = c.broken-then-word-ne-ARRAY.ensures ∙ L.no_array _ _ _ c.find_global-i.ensures c.if-i-eq0.false c.word-header.ensures c.word.ensures c.if-word-ne-ARRAY.true
+pub returns-then-not-is_array : goal.returns-then-not-is_array
+returns-then-not-is_array c = L.no_array _ c.args.name (held c.args.index) c.in_ok-array.ensures c.is_array.ensures c.if-not-is_array.true
 
-pub returns-then-not-same_type : goal.returns-then-not-same_type
-unfolding type_of
-returns-then-not-same_type c = c.broken-then-not-same_type.ensures ∙ L.no_index _ _ _ c.find_global-i.ensures c.if-i-eq0.false c.word-header.ensures c.word.ensures c.if-word-ne-ARRAY.false c.same_type.ensures c.if-not-same_type.true
+pub returns-then-ne : goal.returns-then-ne
+returns-then-ne c = L.no_index _ c.args.name (held c.args.index) c.in_ok-array.ensures c.is_array.ensures c.if-not-is_array.false (V.unlike _ K.Int c.ne.ensures c.if-ne.true)
 
 pub returns : goal.returns
-unfolding type_of made
-returns c = L.array_some _ _ _ c.find_global-i.ensures c.if-i-eq0.false c.word-header.ensures c.word.ensures c.if-word-ne-ARRAY.false c.same_type.ensures c.if-not-same_type.false c.word-offset.ensures c.word-size.ensures
+returns c = L.array_some _ c.args.name (held c.args.index) c.in_ok-array.ensures c.is_array.ensures c.if-not-is_array.false (V.alike _ K.Int c.ne.ensures c.if-ne.false) c.word-size.ensures

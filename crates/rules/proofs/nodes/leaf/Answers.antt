@@ -1,9 +1,8 @@
 -- The fields are those of a leaf.
 use mathlib.Core.Path.{refl}
-use Rattle.rules.specs.Post.{made}
 use Rattle.rules.specs.Scan.{leaf}
 use Rattle.rules.proofs.nodes.leaf.Goals as goal
 
 pub returns : goal.returns
-unfolding made leaf
+unfolding leaf
 returns c = refl

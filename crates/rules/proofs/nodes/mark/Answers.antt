@@ -1,9 +1,8 @@
 -- The fields are those of a mark.
 use mathlib.Core.Path.{refl}
-use Rattle.rules.specs.Post.{made}
 use Rattle.rules.specs.Scan.{mark_node}
 use Rattle.rules.proofs.nodes.mark.Goals as goal
 
 pub returns : goal.returns
-unfolding made mark_node
+unfolding mark_node
 returns c = refl

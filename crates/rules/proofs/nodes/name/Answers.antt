@@ -1,10 +1,13 @@
--- By the entry that is found.
-use mathlib.Core.Path.{◌∙◌}
+-- By the local that is found.
+use mathlib.Core.Path.{ap, ◌∙◌}
+use mathlib.Core.Option.{some}
+use Rattle.rules.specs.Scan.{Node}
+use Rattle.rules.specs.Values.{made}
 use Rattle.rules.proofs.Making as L
 use Rattle.rules.proofs.nodes.name.Goals as goal
 
-pub returns-then-i-eq0 : goal.returns-then-i-eq0
-returns-then-i-eq0 c = c.broken.ensures ∙ L.name_none _ _ _ c.find_local-i.ensures c.if-i-eq0.true
+pub returns-in_err-local : goal.returns-in_err-local
+returns-in_err-local c = ap made c.from_residual.ensures ∙ L.no_name _ _ _ c.in_err-local.ensures
 
 pub returns : goal.returns
-returns c = c.leaf.ensures ∙ L.name_some _ _ _ c.find_local-i.ensures c.if-i-eq0.false c.word-ty.ensures c.word-slot.ensures
+returns c = ap (λ (n : Node). some n) c.leaf.ensures ∙ L.name_some _ _ _ c.in_ok-local.ensures

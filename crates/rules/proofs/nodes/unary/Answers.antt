@@ -1,12 +1,11 @@
 -- By the operand's type.
-use mathlib.Core.Path.{◌∙◌}
-use Rattle.rules.specs.Post.{made}
+use Rattle.rules.specs.Values.{held}
+use Rattle.rules.proofs.Valued as V
 use Rattle.rules.proofs.Making as L
 use Rattle.rules.proofs.nodes.unary.Goals as goal
 
-pub returns-then-not-same_type : goal.returns-then-not-same_type
-returns-then-not-same_type c = c.broken.ensures ∙ L.unary_wrong _ _ c.unary_type-wanted.ensures c.same_type.ensures c.if-not-same_type.true
+pub returns-then-ne : goal.returns-then-ne
+returns-then-ne c = L.unary_wrong _ (held c.args.operand) c.unary_type-ty.ensures (V.unlike _ _ c.ne.ensures c.if-ne.true)
 
 pub returns : goal.returns
-unfolding made
-returns c = L.unary_right _ _ c.unary_type-wanted.ensures c.same_type.ensures c.if-not-same_type.false
+returns c = L.unary_right _ (held c.args.operand) c.unary_type-ty.ensures (V.alike _ _ c.ne.ensures c.if-ne.false)

@@ -3,6 +3,7 @@ use native.Mathlib.Omega.{arith}
 use native.Mathlib.Numerals.{unary_clauses}
 use mathlib.Core.Path.{refl}
 use lib.ListN.{length-set}
+use Rattle.rules.proofs.Valued as V
 use Rattle.rules.proofs.operands.item.Goals as goal
 
 pub bounds-core-at-2 : goal.bounds-core-at-2
@@ -15,4 +16,4 @@ pub bounds-core-at-4 : goal.bounds-core-at-4
 bounds-core-at-4 c = simp length-set (omega arith)
 
 pub returns : goal.returns
-returns c = simp unary_clauses refl
+returns c = rw (← V.kind_is c.args.kind) (simp unary_clauses refl)

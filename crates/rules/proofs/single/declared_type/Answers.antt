@@ -1,14 +1,12 @@
 -- By the kind.
-use mathlib.Core.Path.{sym}
-use Rattle.rules.specs.Tables.{type_of}
+use mathlib.Core.Path.{refl}
 use Rattle.rules.specs.Statements.{declared_type}
-use Rattle.rules.proofs.Making as L
+use Rattle.rules.proofs.Sorts as L
 use Rattle.rules.proofs.single.declared_type.Goals as goal
 
-pub returns-then-kind-eq-DECLARE_BOOL : goal.returns-then-kind-eq-DECLARE_BOOL
-unfolding type_of declared_type
-returns-then-kind-eq-DECLARE_BOOL c = sym (L.by_equal _ _ _ _ c.if-kind-eq-DECLARE_BOOL.true)
+pub returns-in-DeclareBool : goal.returns-in-DeclareBool
+unfolding declared_type
+returns-in-DeclareBool c = rw c.in-DeclareBool.is refl
 
-pub returns-else-kind-eq-DECLARE_BOOL : goal.returns-else-kind-eq-DECLARE_BOOL
-unfolding type_of declared_type
-returns-else-kind-eq-DECLARE_BOOL c = sym (L.by_other _ _ _ _ c.if-kind-eq-DECLARE_BOOL.false)
+pub returns-in_default : goal.returns-in_default
+returns-in_default c = L.declares_int _ c.in_default.not-DeclareBool

@@ -1,16 +1,10 @@
 -- By the entries that are found.
-use mathlib.Core.Path.{refl}
+use mathlib.Core.Path.{sym, ◌∙◌}
 use Rattle.rules.proofs.Stating as L
 use Rattle.rules.proofs.single.fresh.Goals as goal
 
-pub find_global-i-requires : goal.find_global-i-requires
-find_global-i-requires c = c.requires.0
-
-pub returns-then-i-ne0 : goal.returns-then-i-ne0
-returns-then-i-ne0 c = L.named_global _ _ c.find_global-i.ensures c.if-i-ne0.true
-
-pub find_local-j-requires : goal.find_local-j-requires
-find_local-j-requires c = c.requires.1
+pub returns-then-is_some : goal.returns-then-is_some
+returns-then-is_some c = L.named_global _ _ _ c.find_global.ensures (sym c.is_some.ensures ∙ c.if-is_some.true)
 
 pub returns : goal.returns
-returns c = L.named_local _ _ c.find_global-i.ensures c.if-i-ne0.false c.find_local-j.ensures refl
+returns c = L.named_local _ _ _ c.find_global.ensures (sym c.is_some.ensures ∙ c.if-is_some.false) _ c.find_local.ensures c.is_none.ensures

@@ -1,23 +1,26 @@
 -- By the expression, and by its type.
+use mathlib.Core.Path.{ap}
 use native.Mathlib.Omega.{arith}
+use Rattle.rules.proofs.Valued as V
 use Rattle.rules.proofs.Stating as L
 use Rattle.rules.proofs.Moving as M
+use Rattle.rules.specs.Values.{result_in}
 use Rattle.rules.proofs.single.give.Goals as goal
 
-pub first_expression-r-requires : goal.first_expression-r-requires
-first_expression-r-requires c = c.requires.after
+pub first_expression-requires : goal.first_expression-requires
+first_expression-requires c = c.requires.after
 
-pub returns-then-spot-eq0 : goal.returns-then-spot-eq0
-returns-then-spot-eq0 c = record { states = L.give_nothing _ _ _ _ _ _ _ _ _ c.first_expression-r.ensures c.in-Type.is (L.no_result _ c.if-spot-eq0.true); moves = M.stuck _ _ _ _ }
+pub returns-in_err-ty : goal.returns-in_err-ty
+returns-in_err-ty c = rw (V.passed _ c.from_residual.ensures.1) (record { states = L.give_fault _ _ _ _ _ _ _ _ _ c.first_expression.ensures c.in_err-ty.was; moves = M.stuck _ _ _ _ })
 
-pub returns-then-not-same_type : goal.returns-then-not-same_type
-returns-then-not-same_type c = record { states = L.give_wrong _ _ _ _ _ _ _ _ _ c.first_expression-r.ensures c.in-Type.is (L.some_result _ c.if-spot-eq0.false) c.same_type.ensures c.if-not-same_type.true; moves = M.stuck _ _ _ _ }
+pub returns-in_default : goal.returns-in_default
+returns-in_default c = record { states = L.give_nothing _ _ _ _ _ _ _ _ _ c.first_expression.ensures c.in_ok-ty.was (ap result_in c.in_default.is); moves = M.stuck _ _ _ _ }
+
+pub returns-then-ne : goal.returns-then-ne
+returns-then-ne c = record { states = L.give_wrong _ _ _ _ _ _ _ _ _ c.first_expression.ensures c.in_ok-ty.was (ap result_in c.in-Some.is) (V.unlike _ _ c.ne.ensures c.if-ne.true); moves = M.stuck _ _ _ _ }
 
 pub header_of_one-requires : goal.header_of_one-requires
-header_of_one-requires c = omega (arith, c.requires.header, c.first_expression-r.auto.core)
+header_of_one-requires c = omega (arith, c.requires.header, c.first_expression.auto.core)
 
-pub returns-else-not-same_type : goal.returns-else-not-same_type
-returns-else-not-same_type c = record { states = L.give_next _ _ _ _ _ _ _ _ _ c.first_expression-r.ensures c.in-Type.is (L.some_result _ c.if-spot-eq0.false) c.same_type.ensures c.if-not-same_type.false c.header_of_one.ensures; moves = M.stays _ _ _ }
-
-pub returns-in-Broken : goal.returns-in-Broken
-returns-in-Broken c = record { states = L.give_fault _ _ _ _ _ _ _ _ _ c.first_expression-r.ensures c.in-Broken.is; moves = M.stuck _ _ _ _ }
+pub returns : goal.returns
+returns c = record { states = L.give_next _ _ _ _ _ _ _ _ _ c.first_expression.ensures c.in_ok-ty.was (ap result_in c.in-Some.is) (V.alike _ _ c.ne.ensures c.if-ne.false) c.header_of_one.ensures; moves = M.stays _ _ _ }

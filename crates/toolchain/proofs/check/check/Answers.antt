@@ -1,17 +1,14 @@
 -- `check` meets its contract: 6 where working room is short, else what `accept` says.
-use Rattle.toolchain.proofs.Answering.{lacks, suffices, made, refused, accepted_with}
-use Rattle.toolchain.specs.Checking.{work, Enough, declined}
-use mathlib.Core.Path.{refl}
+use Rattle.toolchain.proofs.Answering.{accepted_with}
+use Rattle.toolchain.specs.Checking.{Enough, declined}
+use Rattle.std.proofs.lemmas.Result.{err_from_is_err_and}
+use mathlib.Core.Path.{subst}
 use Rattle.toolchain.proofs.check.check.Goals as goal
 
-pub returns-then-lacking : goal.returns-then-lacking
-returns-then-lacking c = record { answers = λ (e : Enough _). absurd (lacks (work c.args.tokens.now c.args.tree.now c.args.starts.now c.args.core.now) c.lacking.ensures c.if-lacking.true e); short = λ h. refl }
+pub returns-in_err-accept : goal.returns-in_err-accept
+returns-in_err-accept c =
+    let p = err_from_is_err_and c.from_residual-in_err-accept.result c.from_residual-in_err-accept.ensures.1 in
+    rw (p.1, p.2) (record { answers = λ e. declined c.in_err-accept.ensures.by; short = λ h. absurd (h (subst Enough c.of.ensures c.in_ok-suffices.ensures)) })
 
-pub accept-a-requires : goal.accept-a-requires
-accept-a-requires c = suffices (work c.args.tokens.now c.args.tree.now c.args.starts.now c.args.core.now) c.lacking.ensures c.if-lacking.false
-
-pub returns-in-Program : goal.returns-in-Program
-returns-in-Program c = record { answers = λ (e : Enough _). accepted_with (made c.accept-a.ensures c.in-Program.is) c.elements.ensures; short = λ h. absurd (h (suffices (work c.args.tokens.now c.args.tree.now c.args.starts.now c.args.core.now) c.lacking.ensures c.if-lacking.false)) }
-
-pub returns-in-Refused : goal.returns-in-Refused
-returns-in-Refused c = record { answers = λ (e : Enough _). declined (refused c.accept-a.ensures c.in-Refused.is); short = λ h. absurd (h (suffices (work c.args.tokens.now c.args.tree.now c.args.starts.now c.args.core.now) c.lacking.ensures c.if-lacking.false)) }
+pub returns : goal.returns
+returns c = record { answers = λ e. accepted_with c.in_ok-accept.ensures.by c.elements.ensures; short = λ h. absurd (h (subst Enough c.of.ensures c.in_ok-suffices.ensures)) }

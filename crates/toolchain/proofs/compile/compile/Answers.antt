@@ -1,32 +1,33 @@
 -- `compile` meets its contract: 6 where working room is short, else what `accept` says, and the compiler's answer on the program's words.
-use Rattle.toolchain.proofs.Answering.{lacks, suffices, made, refused}
-use Rattle.toolchain.proofs.Compiling.{words_few, functions_few, compiled}
-use Rattle.toolchain.specs.Checking.{work}
+use Rattle.toolchain.proofs.Compiling.{words_few, functions_few, made_of, too_long_for}
 use Rattle.toolchain.specs.Compilation.{Compiles, no_work, no_program}
-use lib.Seq.{length-take-le}
-use mathlib.Core.Path.{refl, sym}
+use Rattle.toolchain.specs.Checking.{Enough}
+use Rattle.std.proofs.lemmas.Result.{err_from_is_err_and}
+use mathlib.Core.Path.{refl, sym, subst}
 use native.Mathlib.Omega.{arith}
 use Rattle.toolchain.proofs.compile.compile.Goals as goal
 
-pub returns-then-lacking : goal.returns-then-lacking
+pub returns-in_err-suffices : goal.returns-in_err-suffices
 unfolding Compiles
-returns-then-lacking c = (no_work (lacks (work c.args.tokens.now c.args.tree.now c.args.starts.now c.args.core.now) c.lacking.ensures c.if-lacking.true), refl)
+returns-in_err-suffices c =
+    let p = err_from_is_err_and c.from_residual.result c.from_residual.ensures.1 in
+    rw (p.1, p.2, c.in_err-suffices.ensures.0) (no_work (λ (e : Enough _). c.in_err-suffices.ensures.1 (subst Enough (sym c.of.ensures) e)), refl)
 
-pub accept-a-requires : goal.accept-a-requires
-accept-a-requires c = suffices (work c.args.tokens.now c.args.tree.now c.args.starts.now c.args.core.now) c.lacking.ensures c.if-lacking.false
-
-pub slice_bounds-compile-end : goal.slice_bounds-compile-end
-slice_bounds-compile-end c = omega (arith, (made c.accept-a.ensures c.in-Program.is).short, (suffices (work c.args.tokens.now c.args.tree.now c.args.starts.now c.args.core.now) c.lacking.ensures c.if-lacking.false).for_core, c.accept-a.auto)
-
-pub slice_bounds-compile-end-in-Program : goal.slice_bounds-compile-end-in-Program
-slice_bounds-compile-end-in-Program c = sym (length-take-le _ _ (omega (arith, (made c.accept-a.ensures c.in-Program.is).short, (suffices (work c.args.tokens.now c.args.tree.now c.args.starts.now c.args.core.now) c.lacking.ensures c.if-lacking.false).for_core, c.accept-a.auto)))
-
-pub compile-c-requires : goal.compile-c-requires
-compile-c-requires c = (omega (arith, words_few (made c.accept-a.ensures c.in-Program.is)), (omega (arith, functions_few (made c.accept-a.ensures c.in-Program.is)), (omega (arith, functions_few (made c.accept-a.ensures c.in-Program.is), (suffices (work c.args.tokens.now c.args.tree.now c.args.starts.now c.args.core.now) c.lacking.ensures c.if-lacking.false).for_tree, c.accept-a.auto), omega (arith, (suffices (work c.args.tokens.now c.args.tree.now c.args.starts.now c.args.core.now) c.lacking.ensures c.if-lacking.false).for_tokens, c.accept-a.auto))))
-
-pub returns-in-Program : goal.returns-in-Program
-returns-in-Program c = rw c.told.ensures (compiled (work c.args.tokens.now c.args.tree.now c.args.starts.now c.args.core.now) (suffices (work c.args.tokens.now c.args.tree.now c.args.starts.now c.args.core.now) c.lacking.ensures c.if-lacking.false) (made c.accept-a.ensures c.in-Program.is) c.args.image.now _ (omega (arith, c.compile-c.auto)) c.compile-c.result c.compile-c.ensures.compiles c.compile-c.ensures.bounded)
-
-pub returns-in-Refused : goal.returns-in-Refused
+pub returns-in_err-words : goal.returns-in_err-words
 unfolding Compiles
-returns-in-Refused c = (no_program (suffices (work c.args.tokens.now c.args.tree.now c.args.starts.now c.args.core.now) c.lacking.ensures c.if-lacking.false) (refused c.accept-a.ensures c.in-Refused.is), refl)
+returns-in_err-words c =
+    let p = err_from_is_err_and c.from_residual-in_err-words.result c.from_residual-in_err-words.ensures.1 in
+    rw (p.1, p.2) (no_program (subst Enough c.of.ensures c.in_ok-suffices.ensures) c.in_err-words.ensures.by, refl)
+
+pub compile-requires : goal.compile-requires
+compile-requires c =
+    let w : Enough _ = subst Enough c.of.ensures c.in_ok-suffices.ensures in
+    (omega (arith, words_few c.in_ok-words.ensures.by), (omega (arith, functions_few c.in_ok-words.ensures.by), (omega (arith, functions_few c.in_ok-words.ensures.by, w.for_tree, c.accept.auto), omega (arith, w.for_tokens, c.accept.auto))))
+
+pub returns-in_err-bytes : goal.returns-in_err-bytes
+returns-in_err-bytes c =
+    let p = err_from_is_err_and c.from_residual-in_err-bytes.result c.from_residual-in_err-bytes.ensures.1 in
+    rw (p.1, p.2) (too_long_for _ (subst Enough c.of.ensures c.in_ok-suffices.ensures) c.in_ok-words.ensures.by c.args.image.now _ (omega arith) c.in_err-bytes.ensures.compiles)
+
+pub returns : goal.returns
+returns c = made_of _ (subst Enough c.of.ensures c.in_ok-suffices.ensures) c.in_ok-words.ensures.by c.args.image.now _ (omega arith) c.in_ok-bytes.ensures.compiles c.in_ok-bytes.ensures.bounded

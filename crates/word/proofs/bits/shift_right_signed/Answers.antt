@@ -1,18 +1,10 @@
--- The two ways are the two sides of the definition; the complement, shifted, is no more than it was.
-use Prim.Native.Nat.{◌-◌}
-use Rattle.word.specs.Word.{shr_s}
-use Rattle.word.proofs.Sign.{negative_is, negative_isnt}
-use lib.Pow.{shr_le}
-use native.Mathlib.Omega.{arith}
+-- The shift of the signed number is the definition, by a law of Casts.
+use mir.Syntax.{w32}
+use borrow.Author.Rules.{rules}
+use Rattle.std.proofs.lemmas.Int.{of_z-to_z}
+use Rattle.word.proofs.Casts.{signed_shift}
+use Rattle.word.proofs.Range.{shr_s_lt}
 use Rattle.word.proofs.bits.shift_right_signed.Goals as goal
 
-pub overflow_sub-result-else-a-lt2147483648 : goal.overflow_sub-result-else-a-lt2147483648
-overflow_sub-result-else-a-lt2147483648 c = omega (arith, shr_le (4294967295 - c.args.a) c.args.s)
-
-pub returns-then-a-lt2147483648 : goal.returns-then-a-lt2147483648
-unfolding shr_s
-returns-then-a-lt2147483648 c = simp (negative_isnt _ c.if-a-lt2147483648.true)
-
-pub returns-else-a-lt2147483648 : goal.returns-else-a-lt2147483648
-unfolding shr_s
-returns-else-a-lt2147483648 c = simp (negative_is _ c.if-a-lt2147483648.false)
+pub returns : goal.returns
+returns c = rw (c.cast_unsigned.ensures, c.cast_signed.ensures, of_z-to_z w32 c.args.a (search rules), signed_shift c.args.a c.args.s (search rules)) (of_z-to_z w32 _ (shr_s_lt _ _))

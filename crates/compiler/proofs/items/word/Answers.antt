@@ -1,7 +1,0 @@
--- Past the end there are zeros.
-use lib.ListN.{get_or-eq_default}
-use mathlib.Core.Path.{sym}
-use Rattle.compiler.proofs.items.word.Goals as goal
-
-pub returns-else-i-words : goal.returns-else-i-words
-returns-else-i-words c = sym (get_or-eq_default c.args.words.now 0 c.if-i-words.false)

@@ -1,0 +1,18 @@
+-- Four stores, one after the other.
+use native.Mathlib.Omega.{arith}
+use native.Mathlib.Numerals.{unary_clauses}
+use mathlib.Core.Path.{refl}
+use lib.ListN.{length-set}
+use Rattle.declarations.proofs.functions.Entry.write.Goals as goal
+
+pub bounds-core-at-2 : goal.bounds-core-at-2
+bounds-core-at-2 c = simp length-set (omega arith)
+
+pub bounds-core-at-3 : goal.bounds-core-at-3
+bounds-core-at-3 c = simp length-set (omega arith)
+
+pub bounds-core-at-4 : goal.bounds-core-at-4
+bounds-core-at-4 c = simp length-set (omega arith)
+
+pub returns : goal.returns
+returns c = simp unary_clauses refl

@@ -1,9 +1,0 @@
--- Each turn leaves less of the table.
-use Rattle.std.proofs.Common.{length, ◌-◌, ◌≡◌}
-use Rattle.doorlang.proofs.places.Given as goal
-
-abbrev pub invariant-loop-i : goal.invariant-loop-i
-invariant-loop-i l = length l.table ≡ length l.initial.table
-
-abbrev pub decreases-loop-i : goal.decreases-loop-i
-decreases-loop-i l = length l.initial.table - l.i

@@ -1,8 +1,0 @@
--- From one before `at`.
-use Rattle.symbolic.specs.Real.{distance}
-use mathlib.Core.Path.{ap, ◌∙◌}
-use Prim.Native.Nat.{ℕ, ◌+◌, ◌-◌}
-use Rattle.emission.proofs.tape.onward.Goals as goal
-
-pub returns : goal.returns
-returns c = c.reach.ensures ∙ ap (λ (k : ℕ). distance (c.args.at - 1) (k + c.args.n)) c.prior-k.ensures

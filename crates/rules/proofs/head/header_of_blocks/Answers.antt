@@ -1,0 +1,5 @@
+-- A header of so many words.
+use Rattle.rules.proofs.head.header_of_blocks.Goals as goal
+
+pub returns : goal.returns
+returns c = c.write.ensures

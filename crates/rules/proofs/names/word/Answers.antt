@@ -1,7 +1,0 @@
--- Past the end there are zeros.
-use lib.ListN.{get_or-eq_default}
-use mathlib.Core.Path.{sym}
-use Rattle.rules.proofs.names.word.Goals as goal
-
-pub returns-else-i-ws : goal.returns-else-i-ws
-returns-else-i-ws c = sym (get_or-eq_default c.args.ws.now 0 c.if-i-ws.false)
