@@ -1,5 +1,5 @@
 // Buffers that a program lends, and what it reads into them.
-ghost use Rattle.std.specs.Prelude.{◌≡◌, ◌≤◌, IfOk, length, min};
+ghost use Rattle.std.specs.Prelude.{◌≡◌, ◌≤◌, IfOk, length, min, take};
 
 use std::io;
 use std::io::Read;
@@ -13,7 +13,8 @@ pub fn filled<T: Copy, const N: usize>(value: T) -> [T; N]
 
 // So much of a buffer, or all that there is.
 pub fn first<T>(buffer: &mut [T], size: u64) -> &mut [T]
-    ensures { length result.now ≡ min size (length buffer.old) }
+    ensures length { length result.now ≡ min size (length buffer.old) }
+    ensures start { result.now ≡ take (min size (length buffer.old)) buffer.old }
 {
     let end = size.min(buffer.len() as u64) as usize;
     &mut buffer[..end]

@@ -1,5 +1,5 @@
 // Numbers as people write them: of an option, and of an input text.
-ghost use Rattle.std.specs.Prelude.{◌≡◌, ◌+◌, ◌*◌, ◌-◌, ◌<◌, ◌^◌, true, leb, IfSome};
+ghost use Rattle.std.specs.Prelude.{◌≡◌, ◌+◌, ◌*◌, ◌-◌, ◌<◌, ◌≤◌, ◌^◌, ◌⊎◌, true, leb, Some, None, IfSome};
 ghost use Rattle.language.specs.Tokens.{is_blank, is_digit, all, decimal};
 ghost use Rattle.console.specs.Numbers.{at_most, number_of, fresh, input, at as at_of, stored, blank_after, dash_after, more_of, digit_after, sign_after, read_byte, read_bytes};
 
@@ -69,7 +69,10 @@ fn digit_value(b: u8) -> u64
 
 // What a digit in hex stands for.
 pub fn hex_digit(b: u8) -> Option<u8>
-    ensures { IfSome result (λ d. d < 16) }
+    ensures below { IfSome result (λ d. d < 16) }
+    ensures figure { 48 ≤ b → b ≤ 57 → result ≡ Some (b - 48) }
+    ensures letter { 97 ≤ b → b ≤ 102 → result ≡ Some (b - 87) }
+    ensures other { (b < 48) ⊎ ((57 < b) × (b < 97)) ⊎ (102 < b) → result ≡ None }
 {
     match b {
         b'0'..=b'9' => Some(b - b'0'),
