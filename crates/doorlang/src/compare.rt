@@ -7,6 +7,7 @@ ghost use Rattle.codegen.specs.Costs.{costs};
 ghost use Rattle.agreement.specs.Agreement.{agrees_of, limit_of};
 
 use crate::output::{Status, Told, about, tell, written};
+use crate::run::Answered;
 use crate::values::Values;
 use crate::{build, exec, files, output, rooms, run, texts, values};
 use console::arguments::Given;
@@ -133,19 +134,23 @@ fn interpret(
     text: &[u8],
     image: &[u8],
     block: &[u8],
+    size: Option<usize>,
     values: Values,
 ) -> Result<Status, Told> {
     let mut arrays = filled::<u32, { rooms::ARRAYS }>(0);
     let mut log = filled::<u32, { rooms::LOG }>(0);
-    match run::answer_of(text, block, values, &mut arrays, &mut log) {
-        Err(refusal) => texts::refused(rt, given, text, refusal, block.len()),
+    let Answered { said, size } = run::answer_of(
+        text, block, size, values, &mut arrays, &mut log,
+    );
+    match said {
+        Err(refusal) => texts::refused(rt, given, text, refusal, size),
         Ok(ran) => {
             let left = run::Left {
                 ran,
                 arrays: &arrays,
                 log: &log,
             };
-            emulate(rt, given, image, block, values, left)
+            emulate(rt, given, image, &block[..size], values, left)
         }
     }
 }
@@ -156,14 +161,15 @@ fn go(
     given: Given,
     text: &[u8],
     block: &[u8],
+    size: Option<usize>,
     values: Values,
 ) -> Result<Status, Told> {
     let mut image = filled::<u8, { rooms::IMAGE }>(0);
     match build::image_of(text, &mut image) {
         Err(refusal) => texts::refused(rt, given, text, refusal, 0),
-        Ok(size) => {
-            let n = size.min(image.len());
-            interpret(rt, given, text, &image[..n], block, values)
+        Ok(bytes) => {
+            let n = bytes.min(image.len());
+            interpret(rt, given, text, &image[..n], block, size, values)
         }
     }
 }
@@ -174,6 +180,5 @@ pub fn compare(rt: &HostRuntime, given: Given) -> Result<Status, Told> {
     let mut block = filled::<u8, { rooms::BLOCK }>(0);
     let n = files::read_file(rt, files::wanted(given.first)?, &mut text)?;
     let size = files::read_block(rt, given, &mut block)?;
-    let k = texts::block_size(size, &text[..n], block.len());
-    go(rt, given, &text[..n], &block[..k], values)
+    go(rt, given, &text[..n], &block, size, values)
 }

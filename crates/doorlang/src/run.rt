@@ -1,5 +1,5 @@
 // `doorlang run`: the run of a text by the interpreter.
-ghost use Rattle.std.specs.Prelude.{◌≡◌, ◌-◌};
+ghost use Rattle.std.specs.Prelude.{◌≡◌, ◌≤◌, ◌-◌, length};
 
 use crate::output::{Status, Told, about, tell, written};
 use crate::values::Values;
@@ -54,21 +54,41 @@ pub fn lines(rt: &HostRuntime, left: Left<'_>, fuel: u64, size: usize) -> io::Re
     output::log_line(rt, "arrays", left.arrays, size / 4)
 }
 
-// What `interpret` answers; working room is free again afterwards.
+// What `interpret` answers, and the size of the input block that it was given.
+#[derive(Clone, Copy)]
+pub struct Answered {
+    pub said: Result<Ran, Refusal>,
+    pub size: usize,
+}
+
+// The run on an input block of the size that is given, or of zeros for the text, which are counted in the run's own working room: it is filled once, and is free
+// again afterwards.
 pub fn answer_of(
     text: &[u8],
     block: &[u8],
+    given: Option<usize>,
     values: Values,
     arrays: &mut [u32],
     log: &mut [u32],
-) -> Result<Ran, Refusal> {
+) -> Answered
+    ensures { result.size ≤ length block.now }
+{
     let mut tokens = filled::<u32, TOKENS_ROOM>(0);
     let mut tree = filled::<u32, TREE_ROOM>(0);
     let mut starts = filled::<u32, STARTS_ROOM>(0);
     let mut core = filled::<u32, CORE_ROOM>(0);
-    interpret::interpret(
+    let size = texts::block_size(
+        given,
         text,
-        block,
+        block.len(),
+        &mut tokens,
+        &mut tree,
+        &mut starts,
+        &mut core,
+    );
+    let said = interpret::interpret(
+        text,
+        &block[..size],
         arrays,
         log,
         values.room,
@@ -77,7 +97,8 @@ pub fn answer_of(
         &mut tree,
         &mut starts,
         &mut core,
-    )
+    );
+    Answered { said, size }
 }
 
 fn go(
@@ -85,19 +106,21 @@ fn go(
     given: Given,
     text: &[u8],
     block: &[u8],
+    size: Option<usize>,
     values: Values,
 ) -> Result<Status, Told> {
     let mut arrays = filled::<u32, { rooms::ARRAYS }>(0);
     let mut log = filled::<u32, { rooms::LOG }>(0);
-    match answer_of(text, block, values, &mut arrays, &mut log) {
-        Err(refusal) => texts::refused(rt, given, text, refusal, block.len()),
+    let Answered { said, size } = answer_of(text, block, size, values, &mut arrays, &mut log);
+    match said {
+        Err(refusal) => texts::refused(rt, given, text, refusal, size),
         Ok(ran) => {
             let left = Left {
                 ran,
                 arrays: &arrays,
                 log: &log,
             };
-            written(rt, lines(rt, left, values.most, block.len()))?;
+            written(rt, lines(rt, left, values.most, size))?;
             let outcome = ran.outcome;
             tell_outcome(rt, given, outcome);
             Ok(status_of(outcome))
@@ -111,6 +134,5 @@ pub fn run(rt: &HostRuntime, given: Given) -> Result<Status, Told> {
     let mut block = filled::<u8, { rooms::BLOCK }>(0);
     let n = files::read_file(rt, files::wanted(given.first)?, &mut text)?;
     let size = files::read_block(rt, given, &mut block)?;
-    let k = texts::block_size(size, &text[..n], block.len());
-    go(rt, given, &text[..n], &block[..k], values)
+    go(rt, given, &text[..n], &block, size, values)
 }

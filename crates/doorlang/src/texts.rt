@@ -7,6 +7,7 @@ use console::arguments::Given;
 use console::lent::filled;
 use console::place;
 use toolchain::Refusal;
+use toolchain::check::check;
 use toolchain::work::{CORE_ROOM, STARTS_ROOM, TOKENS_ROOM, TREE_ROOM};
 
 // The most bytes that a text has.
@@ -95,15 +96,26 @@ pub fn elements(text: &[u8]) -> Result<usize, Refusal> {
     let mut tree = filled::<u32, TREE_ROOM>(0);
     let mut starts = filled::<u32, STARTS_ROOM>(0);
     let mut core = filled::<u32, CORE_ROOM>(0);
-    toolchain::check::check(text, &mut tokens, &mut tree, &mut starts, &mut core)
+    check(text, &mut tokens, &mut tree, &mut starts, &mut core)
 }
 
 // The size of the input block, within `most`: as it is given, or of zeros for the text; 0 where the text is refused, which its run then says.
-pub fn block_size(given: Option<usize>, text: &[u8], most: usize) -> usize
+pub fn block_size(
+    given: Option<usize>,
+    text: &[u8],
+    most: usize,
+    tokens: &mut [u32],
+    tree: &mut [u32],
+    starts: &mut [u32],
+    core: &mut [u32],
+) -> usize
     ensures { result ≤ most }
 {
     match given {
         Some(size) => size.min(most),
-        None => elements(text).unwrap_or(0).saturating_mul(4).min(most),
+        None => check(text, tokens, tree, starts, core)
+            .unwrap_or(0)
+            .saturating_mul(4)
+            .min(most),
     }
 }
