@@ -8,11 +8,11 @@ use Prim.Native.String.{String}
 use native.Mathlib.Omega.{arith}
 use native.Mathlib.Numerals.{add-one}
 use lib.Dec.{ltb, eqb}
-use lib.ListN.{length, get_or, take, drop, length-drop, length-append}
+use lib.ListN.{length, get_or, take, drop, length-drop, length-append, drop_of_length-le}
 use lib.Seq.{drop-cons, drop-drop, get_or-drop, take-append_seam}
 use borrow.Author.Tests.{ne_eqb, eqb-true, le-leb, lt-leb, ltb-true}
 use Rattle.word.specs.Choice.{pick, both}
-use Rattle.language.specs.Tokens.{all, Word, Sign, In, bytes, signs, begins, as_sign, unpadded, decimal, is_letter, is_digit, in_name, words, starts, same, span, find, or_name, name_at, number_at, token_at}
+use Rattle.language.specs.Tokens.{Word, Sign, In, bytes, signs, begins, as_sign, unpadded, decimal, is_letter, is_digit, in_name, words, starts, same, span, find, or_name, name_at, number_at, token_at}
 use Rattle.tokens.specs.Kinds.{kind_of, value_of, word_kind, sign_kind}
 use Rattle.tokens.specs.Seen.{Seen, seen, kind_or_none, sign_in}
 use Rattle.tokens.proofs.Lists.{span_split, every, every_in, both_true, either_right, Hit, find_hit}
@@ -104,18 +104,23 @@ unfolding decimal
 decimal_grows v [] = omega arith
 decimal_grows v (b ∷ w) = omega (arith, decimal_grows (v * 10 + (b - 48)) w)
 
--- the digit at k, which counts d, and those after it
-module _ (w : List ℕ) (k : ℕ) (h : k < length w) where
-  pub digit_on : all is_digit (drop k w) ≡ true → (is_digit (get_or w k 0) ≡ true) × (all is_digit (drop (k + 1) w) ≡ true)
-  unfolding all
-  digit_on e =
-      let q : both (is_digit (get_or w k 0)) (all is_digit (drop (suc k) w)) ≡ true = ap (all is_digit) (sym (drop-cons w k 0 h)) ∙ e in
-      let r : (is_digit (get_or w k 0) ≡ true) × (all is_digit (drop (suc k) w) ≡ true) = both_true _ _ q in
-      (r.0, ap (λ (m : ℕ). all is_digit (drop m w)) (add-one k) ∙ r.1)
+-- one digit more, which counts d
+module _ (text : List ℕ) (j : ℕ) (h : j < length text) (v d : ℕ) (e : is_digit (get_or text j 0) ≡ true) (q : d ≡ get_or text j 0 - 48) where
+  pub decimal_on : decimal v (span is_digit (drop j text)) ≡ decimal (v * 10 + d) (span is_digit (drop (j + 1) text))
+  unfolding decimal span
+  decimal_on = rw (drop-cons text j 0 h, e, add-one, q)
 
-  pub decimal_on : (v d : ℕ) → d ≡ get_or w k 0 - 48 → decimal v (drop k w) ≡ decimal (v * 10 + d) (drop (k + 1) w)
-  unfolding decimal
-  decimal_on v d q = rw (drop-cons w k 0 h, add-one, q)
+  pub decimal_big : (w : List ℕ) → decimal 0 w ≡ decimal v (span is_digit (drop j text)) → 2147483647 < v * 10 + d → 2147483647 < decimal 0 w
+  decimal_big w r l = omega (arith, r, decimal_on, decimal_grows (v * 10 + d) (span is_digit (drop (j + 1) text)))
+
+-- at the end of the digits nothing is left of them
+pub decimal_off : (text : List ℕ) (j : ℕ) → j < length text → (v : ℕ) → is_digit (get_or text j 0) ≡ false → v ≡ decimal v (span is_digit (drop j text))
+unfolding decimal span
+decimal_off text j h v e = rw (drop-cons text j 0 h, e)
+
+pub decimal_out : (text : List ℕ) (j : ℕ) → length text ≤ j → (v : ℕ) → v ≡ decimal v (span is_digit (drop j text))
+unfolding decimal span
+decimal_out text j h v = rw (drop_of_length-le text h)
 
 both_no : (a b : Bool) → both a (both b false) ≡ false
 both_no true true = refl

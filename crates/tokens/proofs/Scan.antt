@@ -36,9 +36,13 @@ module _ (P : ℕ → Bool) (rest : List ℕ) (i : ℕ) (inv : length (span P re
   unfolding span
   span_out h k = let q : i ≡ length (span P rest) = sym (inv ∙ rw (drop_of_length-le rest h) (omega arith)) in omega (arith, q, h, k)
 
--- that of the text from i on
+-- the text from i on, as a slice of it
+pub from_on : (text : List ℕ) (i : ℕ) → take (length text - i) (drop i text) ≡ drop i text
+from_on text i = take_all (length text - i) (drop i text) (omega (arith, length-drop i text))
+
+-- how long its longest beginning is
 pub counts : {says : ℕ → Bool → Type 0} (P : ℕ → Bool) (text : List ℕ) (i : ℕ) {n : ℕ} → SpansBy says (take (length text - i) (drop i text)) n → ((b : ℕ) (r : Bool) → b < 256 → says b r → r ≡ P b) → n ≡ length (span P (drop i text))
-counts P text i s h = s.by P h ∙ ap (λ (l : List ℕ). length (span P l)) (take_all (length text - i) (drop i text) (omega (arith, length-drop i text)))
+counts P text i s h = s.by P h ∙ ap (λ (l : List ℕ). length (span P l)) (from_on text i)
 
 -- Comparing with a spelling.
 

@@ -31,10 +31,10 @@ kind_or_none (some r) = sign_kind r.0
 unfoldable pub sign_in : List ℕ → ℕ
 sign_in text = kind_or_none (find (λ s. begins s text) signs)
 
--- the number, or none where it is too large
-abbrev pub MeansNumber : ℕ → std.Option ℕ → Type 0
-MeansNumber v std.Option.None = largest_number < v
-MeansNumber v (std.Option.Some n) = (n ≡ v) × (v ≤ largest_number)
+-- the number and how many digits it has, or none where it is too large
+abbrev pub MeansNumber : ℕ → ℕ → std.Option (ℕ × ℕ) → Type 0
+MeansNumber v n std.Option.None = largest_number < v
+MeansNumber v n (std.Option.Some r) = (r.0 ≡ v) × (v ≤ largest_number) × (r.1 ≡ n)
 
 -- how long the longest beginning is whose bytes pass a test, by what the test says
 pub record SpansBy (says : ℕ → Bool → Type 0) (rest : List ℕ) (n : ℕ) : Type 0 where

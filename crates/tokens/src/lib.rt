@@ -5,7 +5,7 @@
 ghost use Rattle.std.specs.Prelude.{◌≡◌, ℕ, ◌+◌, ◌*◌, ◌-◌, ◌≤◌, ◌<◌, [], ◌∷◌, true, false, length, get_or, take, drop, eqb, ltb};
 ghost use Rattle.std.proofs.lemmas.List.Edits.{sets};
 ghost use Rattle.word.specs.Choice.{pick};
-ghost use Rattle.language.specs.Tokens.{all, is_blank, in_comment, is_letter, is_digit, in_name, same, span, find, words, or_name, decimal, name_at, number_at, as_sign, token_at, signs, begins, largest_number};
+ghost use Rattle.language.specs.Tokens.{is_blank, in_comment, is_letter, is_digit, in_name, same, span, find, words, or_name, decimal, name_at, number_at, as_sign, token_at, signs, begins, largest_number};
 ghost use Rattle.tokens.specs.Kinds.{kind_of};
 ghost use Rattle.tokens.specs.Numbers.{number_of_kind, number_in};
 ghost use Rattle.tokens.specs.Seen.{MeansNumber, SpansBy, seen, seen_in, sign_in};
@@ -179,19 +179,21 @@ fn digit_value(b: u8) -> u64
     (b as u64) - 48
 }
 
-// The number that digits mean, if it is not too large.
-fn number_of(digits: &[u8]) -> Option<u32>
-    requires { all is_digit digits.now ≡ true }
-    ensures { MeansNumber (decimal 0 digits.now) result }
+// The number that the first digits mean and how many they are, if it is not too large; no byte is read past the one that makes it too large.
+fn number_of(rest: &[u8]) -> Option<(u32, usize)>
+    ensures { MeansNumber (decimal 0 (span is_digit rest.now)) (length (span is_digit rest.now)) result }
 {
     let mut v: u64 = 0;
-    for b in digits {
+    for (n, b) in rest.iter().enumerate() {
+        if !is_digit(*b) {
+            return Some((v as u32, n));
+        }
         v = v * 10 + digit_value(*b);
         if LARGEST_NUMBER < v {
             return None;
         }
     }
-    Some(v as u32)
+    Some((v as u32, rest.len()))
 }
 
 // The number at i: no letter, digit or `_` follows, and no zero leads.
@@ -199,14 +201,13 @@ fn number_at(text: &[u8], i: usize) -> Option<Token>
     requires { (i < length text.now) × (is_digit (get_or text.now i 0) ≡ true) }
     ensures { seen_in result ≡ seen (number_at (span is_digit (drop i text.now)) (drop (length (span is_digit (drop i text.now))) (drop i text.now))) }
 {
-    let n = length_of(&text[i..], is_digit);
+    let (value, n) = number_of(&text[i..])?;
     if in_name(item_or(text, i + n, 0)) {
         return None;
     }
     if text[i] == b'0' && 1 < n {
         return None;
     }
-    let value = number_of(&text[i..i + n])?;
     Some(Token {
         kind: Kind::Number,
         value,

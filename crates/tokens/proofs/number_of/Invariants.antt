@@ -1,7 +1,7 @@
--- `number_of` meets its contract: v and the digits that are left make the number of all digits.
-use Rattle.std.proofs.Common.{◌≡◌, ◌≤◌, true, drop}
-use Rattle.language.specs.Tokens.{all, is_digit, decimal, largest_number}
+-- `number_of` meets its contract: the first digits are n and those that are left, and v and those that are left make their number.
+use Rattle.std.proofs.Common.{◌≡◌, ◌+◌, ◌≤◌, length, drop}
+use Rattle.language.specs.Tokens.{is_digit, span, decimal, largest_number}
 use Rattle.tokens.proofs.number_of.Given as goal
 
-abbrev pub invariant-loop-b : goal.invariant-loop-b
-invariant-loop-b l = (decimal 0 l.digits ≡ decimal l.v (drop l.b-index l.digits)) × (all is_digit (drop l.b-index l.digits) ≡ true) × (l.v ≤ largest_number)
+abbrev pub invariant-loop-n : goal.invariant-loop-n
+invariant-loop-n l = (length (span is_digit l.rest) ≡ l.n + length (span is_digit (drop l.n l.rest))) × (decimal 0 (span is_digit l.rest) ≡ decimal l.v (span is_digit (drop l.n l.rest))) × (l.v ≤ largest_number)
