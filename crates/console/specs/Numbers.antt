@@ -9,7 +9,7 @@ use Rattle.console.specs.declared.numbers.NumberError.{NumberError}
 use Rattle.console.specs.declared.numbers.NumberError.TheVariants as E
 use Rattle.console.specs.declared.numbers.Fault.TheVariants.{NoNumber, OutOfRange, TooMany}
 use Rattle.console.specs.declared.numbers.Phase.{Phase}
-use Rattle.console.specs.declared.numbers.Phase.TheVariants.{Between, Dash, Positive, Negative, Faulty}
+use Rattle.console.specs.declared.numbers.Phase.TheVariants.{Between, Dash, Positive, Negative, Faulty, Other}
 use Rattle.console.specs.declared.numbers.Reading.{Reading}
 
 -- a number that is to be at most `most`
@@ -26,7 +26,7 @@ abbrev pub largest_magnitude : ℕ
 largest_magnitude = 2147483648
 
 -- An input text: decimal numbers from -2147483648 to 2147483647 between blanks. Where its reading is: between numbers, after a dash, in the digits of
--- a number without or with one; or at a fault, where it stays.
+-- a number without or with one; or at a fault, or in a phase of the caller's own, where it stays.
 
 -- The reading so far, and the words of the numbers that are read.
 pub record Input : Type 0 where
@@ -58,6 +58,7 @@ blank_in Dash s = input (at (Faulty NoNumber) 0 s.reading) s.block
 blank_in Positive s = stored s.reading.value s
 blank_in Negative s = stored (neg_w s.reading.value) s
 blank_in (Faulty f) s = s
+blank_in (Other n) s = s
 
 unfoldable pub blank_after : Input → Input
 blank_after s = blank_in s.reading.phase s
@@ -68,6 +69,7 @@ dash_in Dash r = at (Faulty NoNumber) 0 r
 dash_in Positive r = at (Faulty NoNumber) 0 r
 dash_in Negative r = at (Faulty NoNumber) 0 r
 dash_in (Faulty f) r = at (Faulty NoNumber) 0 r
+dash_in (Other n) r = at (Faulty NoNumber) 0 r
 
 unfoldable pub dash_after : Reading → Reading
 dash_after r = dash_in r.phase r
@@ -82,6 +84,7 @@ digit_in Dash d r = more_of Negative largest_magnitude d r
 digit_in Positive d r = more_of Positive largest_number d r
 digit_in Negative d r = more_of Negative largest_magnitude d r
 digit_in (Faulty f) d r = more_of Positive largest_number d r
+digit_in (Other n) d r = more_of Positive largest_number d r
 
 unfoldable pub digit_after : ℕ → Reading → Reading
 digit_after d r = digit_in r.phase d r
@@ -90,13 +93,14 @@ digit_after d r = digit_in r.phase d r
 unfoldable pub sign_after : ℕ → Reading → Reading
 sign_after b r = pick (is "-" b) (dash_after r) (pick (is_digit b) (digit_after (b - 48) r) (at (Faulty NoNumber) 0 r))
 
--- a byte more; at a fault the reading stays
+-- a byte more; at a fault, or in a phase of the caller's own, the reading stays
 unfoldable pub is_fault : Phase → Bool
 is_fault Between = false
 is_fault Dash = false
 is_fault Positive = false
 is_fault Negative = false
 is_fault (Faulty f) = true
+is_fault (Other n) = true
 
 unfoldable pub read_byte : ℕ → Input → Input
 read_byte b s =

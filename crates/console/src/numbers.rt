@@ -1,7 +1,7 @@
 // Numbers as people write them: of an option, and of an input text.
 ghost use Rattle.std.specs.Prelude.{◌≡◌, ◌+◌, ◌*◌, ◌-◌, ◌<◌, ◌≤◌, ◌^◌, ◌⊎◌, true, leb, Some, None, IfSome};
 ghost use Rattle.language.specs.Tokens.{is_blank, is_digit, all, decimal};
-ghost use Rattle.console.specs.Numbers.{at_most, number_of, fresh, input, at as at_of, stored, blank_after, dash_after, more_of, digit_after, sign_after, read_byte, read_bytes};
+ghost use Rattle.console.specs.Numbers.{at_most, number_of, fresh, input, at as at_of, stored, blank_after, dash_after, more_of, digit_after, sign_after, is_fault, read_byte, read_bytes};
 
 use emulator::memory::put_word;
 use word::arithmetic::neg;
@@ -26,7 +26,8 @@ pub enum Fault {
     TooMany,
 }
 
-// Where the reading of an input text is: between numbers, after a dash, in the digits of a number without or with one; or at a fault, where it stays.
+// Where the reading of an input text is: between numbers, after a dash, in the digits of a number without or with one; or at a fault, or in a phase of the
+// caller's own, where it stays.
 #[derive(Clone, Copy)]
 pub enum Phase {
     Between,
@@ -34,6 +35,7 @@ pub enum Phase {
     Positive,
     Negative,
     Faulty(Fault),
+    Other(u32),
 }
 
 // The reading so far: the magnitude of the number that is being read, and how many are read.
@@ -176,7 +178,7 @@ pub fn blank_after(r: Reading, block: &mut [u8]) -> Reading
         Phase::Dash => at(Phase::Faulty(Fault::NoNumber), 0, r),
         Phase::Positive => store(r.value, r, block),
         Phase::Negative => store(neg(r.value), r, block),
-        Phase::Faulty(_) => r,
+        Phase::Faulty(_) | Phase::Other(_) => r,
     }
 }
 
@@ -224,11 +226,19 @@ fn sign_after(b: u8, r: Reading) -> Reading
     at(Phase::Faulty(Fault::NoNumber), 0, r)
 }
 
-// A byte more; at a fault the reading stays.
+// Whether the reading stays where it is: at a fault, or in a phase of the caller's own.
+#[tactic(auto, unfolding(crate::specs::Numbers::is_fault))]
+fn stays(phase: Phase) -> bool
+    ensures { result ≡ is_fault phase }
+{
+    matches!(phase, Phase::Faulty(_) | Phase::Other(_))
+}
+
+// A byte more; at a fault, or in a phase of the caller's own, the reading stays.
 fn read_byte(b: u8, r: Reading, block: &mut [u8]) -> Reading
     ensures { input result block.new ≡ read_byte b (input r block.old) }
 {
-    if let Phase::Faulty(_) = r.phase {
+    if stays(r.phase) {
         return r;
     }
     if is_blank(b) {
