@@ -7,6 +7,7 @@ use Prim.Native.Nat.{ℕ, ◌+◌, ◌*◌, ◌≤◌, ◌<◌}
 use native.Mathlib.Omega.{arith}
 use lib.Dec.{eqb}
 use lib.ListN.{length, drop}
+use lib.Seq.{get_or-drop}
 use borrow.Author.Tests.{ne_eqb}
 use Rattle.word.specs.Choice.{pick, both}
 use Rattle.language.specs.Tree as T
@@ -50,6 +51,10 @@ return_of_lem (T.leave p) more = refl
 return_of_lem (T.give p e) more = refl
 return_of_lem (T.emit p e) more = refl
 return_of_lem (T.run p x xs) more = refl
+
+-- what is no statement is no return
+pub never_one : {ws : List ℕ} {r : Bool} → 10 < word ws 0 → Returns ws r
+never_one e = record { by = λ st more ew. absurd (omega (arith, e, kind_few st more, ap (λ (w : List ℕ). word w 0) ew)) }
 
 module _ (tree : List ℕ) (p : ℕ) {k at size n m s t rest : ℕ} (hd : Heads (drop p tree) k at size n m s t rest) where
   by_kind : (st : T.Stmt) (more : List ℕ) → drop p tree ≡ G.stmt_words st more → is_return st ≡ return_of k (blocks_end st)
@@ -111,6 +116,9 @@ module _ (tree : List ℕ) (p : ℕ) {k at size n m s t rest : ℕ} (hd : Heads 
 
 -- Blocks
 
+pub word_there : (tree : List ℕ) (at i : ℕ) → word (drop at tree) i ≡ word tree (at + i)
+word_there tree at i = get_or-drop at tree i 0
+
 unfoldable pub ends_from : Bool → T.Block → Bool
 ends_from r T.end = r
 ends_from r (T.then s b) = ends_in_return (T.then s b)
@@ -143,12 +151,9 @@ module _ {tree : List ℕ} {p n i at : ℕ} {ends : Bool} (c : Ending tree p n i
     pub ending_short : {r : Bool} → length tree < at + 8 → Ends n (drop p tree) r
     ending_short e = record { by = λ b more ew en. absurd (omega (arith, e, there (stands b more ew en))) }
 
-    pub ending_odd : {r : Bool} → 10 < word (drop at tree) 0 → Ends n (drop p tree) r
-    ending_odd e = record { by = λ b more ew en. let a = stands b more ew en in absurd (omega (arith, e, kind_few a.first (G.block_words a.rest more), ap (λ (w : List ℕ). word w 0) a.words)) }
-
-    module _ {kind place size items more_items statements more_statements rest : ℕ} (hd : Heads (drop at tree) kind place size items more_items statements more_statements rest) where
+    module _ {rest : ℕ} (er : rest ≡ word tree (at + 7)) where
       pub ending_cut : {r : Bool} → length tree < at + (8 + rest) → Ends n (drop p tree) r
-      ending_cut e = record { by = λ b more ew en. absurd (omega (arith, e, hd.is_rest, there (stands b more ew en))) }
+      ending_cut e = record { by = λ b more ew en. absurd (omega (arith, e, er, word_there tree at 7, there (stands b more ew en))) }
 
       then_ends : (s : T.Stmt) (b : T.Block) (r : Bool) → r ≡ is_return s → ends_from ends (T.then s b) ≡ ends_from r b
       unfolding is_return ends_from
@@ -159,4 +164,4 @@ module _ {tree : List ℕ} {p n i at : ℕ} {ends : Bool} (c : Ending tree p n i
       ending_again {r} x e f = record { left = λ b more ew en. on b more (stands b more ew en); far = omega (arith, c.far); near = omega (arith, e, f) }
         where
           on : (b : T.Block) (more : List ℕ) → Next tree n more i at (EndsAs b ends) → Left tree n more (i + 1) (at + (8 + rest)) (EndsAs b r)
-          on b more a = onward a rest hd.is_rest (record { same = a.holds.same ∙ then_ends a.first a.rest r (x.by a.first (G.block_words a.rest more) a.words) })
+          on b more a = onward a rest (er ∙ sym (word_there tree at 7)) (record { same = a.holds.same ∙ then_ends a.first a.rest r (x.by a.first (G.block_words a.rest more) a.words) })

@@ -85,12 +85,16 @@ unfolding local_of locals_in
 local_step text ws zero x h = absurd (omega arith)
 local_step text ws (suc i) x h = ap (λ (j : ℕ). pick (same (local_at text ws j).name x) (some (local_at text ws j)) (local_of (locals_in text ws j) x)) {x = i} {y = suc i - 1} (omega arith)
 
-module _ {text ws : List ℕ} {count i : ℕ} (x : Name) (c : Finding text ws count x i) (h : 0 < i) (l : N.Local) {r : Bool} (e : known text l ≡ local_at text ws (i - 1)) (er : r ≡ same (part text l.name.place l.name.length) x) where
-  local_now : local_of (locals_in text ws count) x ≡ pick r (some (known text l)) (local_of (locals_in text ws (i - 1)) x)
-  local_now = c.rest ∙ (local_step text ws i x h ∙ rw (← e, ← er) refl)
+module _ {text ws : List ℕ} {count i : ℕ} (x : Name) (c : Finding text ws count x i) (h : 0 < i) {a n : ℕ} {r : Bool} (ea : a ≡ get_or ws (4 * (i - 1)) 0) (en : n ≡ get_or ws (4 * (i - 1) + 1) 0) (er : r ≡ same (part text a n) x) where
+  local_same : same (local_at text ws (i - 1)).name x ≡ r
+  unfolding local_at
+  local_same = rw (← ea, ← en, ← er) refl
 
-  pub local_found : r ≡ true → FindsLocal text ws count x (Some l)
-  local_found f = record { is = local_now ∙ rw f refl }
+  local_now : local_of (locals_in text ws count) x ≡ pick r (some (local_at text ws (i - 1))) (local_of (locals_in text ws (i - 1)) x)
+  local_now = c.rest ∙ (local_step text ws i x h ∙ rw local_same refl)
+
+  pub local_found : (l : N.Local) → known text l ≡ local_at text ws (i - 1) → r ≡ true → FindsLocal text ws count x (Some l)
+  local_found l e f = record { is = local_now ∙ rw (f, ← e) refl }
 
   pub local_onward : r ≡ false → Finding text ws count x (i - 1)
   local_onward f = record { rest = local_now ∙ rw f refl; among = omega (arith, c.among) }
@@ -112,17 +116,21 @@ unfolding global_of globals_in
 global_step text tree ws zero x h = absurd (omega arith)
 global_step text tree ws (suc i) x h = ap (λ (j : ℕ). pick (same (global_at text tree ws j).name x) (some (global_at text tree ws j)) (global_of (globals_in text tree ws j) x)) {x = i} {y = suc i - 1} (omega arith)
 
-module _ {p : Program} {i : ℕ} (x : Name) (c : Seeking p x i) (h : 0 < i) {g : P.Global} {a n : ℕ} {r : Bool}
-    (eh : g.header ≡ get_or p.globals.now (2 * (i - 1)) 0) (ev : g.value ≡ get_or p.globals.now (2 * (i - 1) + 1) 0) (ea : a ≡ get_or p.tree.now (g.header + 1) 0) (en : n ≡ get_or p.tree.now (g.header + 2) 0) (er : r ≡ same (part p.text.now a n) x) where
-  global_is : global_from p.text.now p.tree.now g.header g.value ≡ global_at p.text.now p.tree.now p.globals.now (i - 1)
+global_is : (p : Program) (i : ℕ) {g : P.Global} → g.header ≡ get_or p.globals.now (2 * i) 0 → g.value ≡ get_or p.globals.now (2 * i + 1) 0 → global_from p.text.now p.tree.now g.header g.value ≡ global_at p.text.now p.tree.now p.globals.now i
+unfolding global_at
+global_is p i eh ev = rw (eh, ev) refl
+
+module _ {p : Program} {i : ℕ} (x : Name) (c : Seeking p x i) (h : 0 < i) {at a n : ℕ} {r : Bool}
+    (eh : at ≡ get_or p.globals.now (2 * (i - 1)) 0) (ea : a ≡ get_or p.tree.now (at + 1) 0) (en : n ≡ get_or p.tree.now (at + 2) 0) (er : r ≡ same (part p.text.now a n) x) where
+  global_same : same (global_at p.text.now p.tree.now p.globals.now (i - 1)).name x ≡ r
   unfolding global_at
-  global_is = rw (eh, ev) refl
+  global_same = rw (← eh, ← ea, ← en, ← er) refl
 
-  global_now : global_of (globals_of p) x ≡ pick r (some (global_from p.text.now p.tree.now g.header g.value)) (global_of (globals_in p.text.now p.tree.now p.globals.now (i - 1)) x)
-  global_now = c.rest ∙ (global_step p.text.now p.tree.now p.globals.now i x h ∙ rw (← global_is, ← ea, ← en, ← er) refl)
+  global_now : global_of (globals_of p) x ≡ pick r (some (global_at p.text.now p.tree.now p.globals.now (i - 1))) (global_of (globals_in p.text.now p.tree.now p.globals.now (i - 1)) x)
+  global_now = c.rest ∙ (global_step p.text.now p.tree.now p.globals.now i x h ∙ rw global_same refl)
 
-  pub global_found : r ≡ true → FindsGlobal p x (Some g)
-  global_found f = record { is = global_now ∙ rw f refl }
+  pub global_found : {g : P.Global} → g.header ≡ get_or p.globals.now (2 * (i - 1)) 0 → g.value ≡ get_or p.globals.now (2 * (i - 1) + 1) 0 → r ≡ true → FindsGlobal p x (Some g)
+  global_found {g} gh gv f = record { is = global_now ∙ rw (f, ← global_is p (i - 1) {g = g} gh gv) refl }
 
   pub global_onward : r ≡ false → Seeking p x (i - 1)
   global_onward f = record { rest = global_now ∙ rw f refl; among = omega (arith, c.among) }
@@ -148,14 +156,14 @@ seeking_starts says p = record { by = λ x h. record { rest = refl; among = omeg
 pub sought_none : {p : Program} {i : ℕ} (says : N'.Name → Bool → Type 0) → SeekingBy says p i → i ≤ 0 → FindsBy says p None
 sought_none says c l = record { by = λ x h. no_global x (c.by x h) l }
 
-module _ {p : Program} {i : ℕ} (says : N'.Name → Bool → Type 0) (c : SeekingBy says p i) (l : 0 < i) {g : P.Global} {a n : ℕ} {r : Bool}
-    (eh : g.header ≡ get_or p.globals.now (2 * (i - 1)) 0) (ev : g.value ≡ get_or p.globals.now (2 * (i - 1) + 1) 0) (ea : a ≡ get_or p.tree.now (g.header + 1) 0) (en : n ≡ get_or p.tree.now (g.header + 2) 0)
+module _ {p : Program} {i : ℕ} (says : N'.Name → Bool → Type 0) (c : SeekingBy says p i) (l : 0 < i) {at a n : ℕ} {r : Bool}
+    (eh : at ≡ get_or p.globals.now (2 * (i - 1)) 0) (ea : a ≡ get_or p.tree.now (at + 1) 0) (en : n ≡ get_or p.tree.now (at + 2) 0)
     (la : a < 2 ^ 32) (ln : n < 2 ^ 32) (er : says (record { place = a; length = n }) r) where
-  pub sought_one : r ≡ true → FindsBy says p (Some g)
-  sought_one f = record { by = λ x h. global_found x (c.by x h) l eh ev ea en (h _ r la ln er) f }
+  pub sought_one : {g : P.Global} → g.header ≡ get_or p.globals.now (2 * (i - 1)) 0 → g.value ≡ get_or p.globals.now (2 * (i - 1) + 1) 0 → r ≡ true → FindsBy says p (Some g)
+  sought_one gh gv f = record { by = λ x h. global_found x (c.by x h) l eh ea en (h _ r la ln er) gh gv f }
 
   pub sought_on : r ≡ false → SeekingBy says p (i - 1)
-  sought_on f = record { by = λ x h. global_onward x (c.by x h) l eh ev ea en (h _ r la ln er) f }
+  sought_on f = record { by = λ x h. global_onward x (c.by x h) l eh ea en (h _ r la ln er) f }
 
 -- Types
 

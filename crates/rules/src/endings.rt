@@ -5,6 +5,7 @@ ghost use Rattle.rules.specs.Statements.{Headed, Returns, Ends};
 
 use crate::head::Head;
 use grammar::tree::Statement;
+use word::lists::word;
 
 // Whether the statement at p is a return.
 #[cycle(ends_in_return_returns)]
@@ -42,14 +43,14 @@ pub fn ends_in_return(tree: &[u32], p: usize, n: u32) -> bool
         if tree.len() < at + 8 {
             return false;
         }
-        let Some(head) = Head::read(tree, at) else {
-            return false;
-        };
-        let size = 8 + head.rest as usize;
+        let size = 8 + word(tree, at + 7) as usize;
         if tree.len() < at + size {
             return false;
         }
-        ends = returns(tree, at, head);
+        ends = match Head::read(tree, at) {
+            Some(head) => returns(tree, at, head),
+            None => false,
+        };
         at += size;
     }
     ends

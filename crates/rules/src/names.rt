@@ -39,12 +39,15 @@ pub fn same_name(text: &[u8], x: Name, y: Name) -> bool
     if x.length != y.length {
         return false;
     }
-    for i in 0..x.length {
+    // By hand: over a range, a look-up of names is measured to cost a quarter more.
+    let mut i: u32 = 0;
+    while i < x.length {
         let b = byte(text, x.place as usize + i as usize);
         let c = byte(text, y.place as usize + i as usize);
         if b != c {
             return false;
         }
+        i += 1;
     }
     true
 }
@@ -94,9 +97,12 @@ pub fn find_local(text: &[u8], locals: &[u32], count: usize, name: Name) -> Opti
     ensures { FindsLocal text.now locals.now count (part text.now name.place name.length) result }
 {
     for i in (0..count).rev() {
-        let local = Local::read(locals, i);
-        if same_name(text, local.name, name) {
-            return Some(local);
+        // The name alone: most entries are passed over.
+        let at = LOCAL_WORDS * i;
+        let place = word(locals, at);
+        let length = word(locals, at + LOCAL_LENGTH);
+        if same_name(text, Name { place, length }, name) {
+            return Some(Local::read(locals, i));
         }
     }
     None

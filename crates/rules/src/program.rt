@@ -70,12 +70,12 @@ impl<'a> Program<'a> {
         ensures { FindsBy (F.post is_wanted) self.now result }
     {
         for i in (0..self.count).rev() {
-            let global = Global::read(self.globals, i);
-            let h = global.header as usize;
+            // The header's place alone: most entries are passed over.
+            let h = word(self.globals, GLOBAL_WORDS * i) as usize;
             let place = word(self.tree, h + NAME_PLACE);
             let length = word(self.tree, h + NAME_LENGTH);
             if is_wanted(Name { place, length }) {
-                return Some(global);
+                return Some(Global::read(self.globals, i));
             }
         }
         None

@@ -5,6 +5,7 @@ use Rattle.grammar.specs.Numbers.{number_of_statement}
 use Rattle.rules.proofs.Sorts.{apart}
 use Rattle.rules.proofs.Ending as L
 use Rattle.rules.proofs.endings.+ends_in_return_returns.Goals as goal
+use Rattle.rules.proofs.endings.+ends_in_return_returns.Goals.{ends_in_return-in-Some, ends_in_return-in-None}
 
 pub ends_in_return-loop-init : goal.ends_in_return-loop-init
 ends_in_return-loop-init t c = L.ending_starts _ _ _ c.requires.1
@@ -18,23 +19,23 @@ ends_in_return-returns-then-tree-at t c = L.ending_short c.loop.invariant c.loop
 pub ends_in_return-read-requires : goal.ends_in_return-read-requires
 ends_in_return-read-requires t c = c.loop.invariant.near
 
-pub ends_in_return-returns-in_default : goal.ends_in_return-returns-in_default
-ends_in_return-returns-in_default t c = L.ending_odd c.loop.invariant c.loop-test.true c.in_default.ensures
-
 pub ends_in_return-overflow_add-at-in-loop : goal.ends_in_return-overflow_add-at-in-loop
 ends_in_return-overflow_add-at-in-loop t c = omega (arith, c.loop.invariant.near)
 
+pub ends_in_return-overflow_add-at-in-loop-2 : goal.ends_in_return-overflow_add-at-in-loop-2
+ends_in_return-overflow_add-at-in-loop-2 t c = omega (arith, c.loop.invariant.near)
+
 pub ends_in_return-returns-then-tree-at-2 : goal.ends_in_return-returns-then-tree-at-2
-ends_in_return-returns-then-tree-at-2 t c = L.ending_cut c.loop.invariant c.loop-test.true c.in-Some.ensures c.if-tree-at-2.true
+ends_in_return-returns-then-tree-at-2 t c = L.ending_cut c.loop.invariant c.loop-test.true c.word.ensures c.if-tree-at-2.true
 
 pub ends_in_return-returns-ends-requires : goal.ends_in_return-returns-ends-requires
-ends_in_return-returns-ends-requires t c = (omega (arith, c.decreases, c.loop.invariant.far, c.if-tree-at-2.false), (c.requires.0, omega (arith, c.if-tree-at-2.false), c.in-Some.ensures))
+ends_in_return-returns-ends-requires t c = (omega (arith, c.decreases, c.loop.invariant.far, c.if-tree-at-2.false), (c.requires.0, omega (arith, c.if-tree-at-2.false, c.word.ensures, c.in-Some.ensures.is_rest, L.word_there c.args.tree.now c.loop.at 7), c.in-Some.ensures))
 
-pub ends_in_return-overflow_add-at-in-loop-2 : goal.ends_in_return-overflow_add-at-in-loop-2
-ends_in_return-overflow_add-at-in-loop-2 t c = omega (arith, c.if-tree-at-2.false, c.requires.0)
+pub ends_in_return-overflow_add-at-in-loop-3 : goal.ends_in_return-overflow_add-at-in-loop-3
+ends_in_return-overflow_add-at-in-loop-3 t c = omega (arith, c.if-tree-at-2.false, c.requires.0)
 
 pub ends_in_return-loop-preserved : goal.ends_in_return-loop-preserved
-ends_in_return-loop-preserved t c = L.ending_again c.loop.invariant c.loop-test.true c.in-Some.ensures c.returns-ends.ensures c.requires.0 c.if-tree-at-2.false
+ends_in_return-loop-preserved t c = L.ending_again c.loop.invariant c.loop-test.true c.word.ensures (elim c.match-read.branch [ ends_in_return-in-Some w ↦ rw w.ends-is w.returns-ends.ensures | ends_in_return-in-None w ↦ L.never_one w.in-None.ensures ]) c.requires.0 c.if-tree-at-2.false
 
 pub ends_in_return-returns : goal.ends_in_return-returns
 ends_in_return-returns t c = L.ending_done c.loop.invariant c.loop-test.false
