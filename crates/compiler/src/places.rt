@@ -4,32 +4,32 @@ ghost use Rattle.codegen.specs.Places.{above as above_of};
 ghost use Rattle.emission.specs.Macros.{placed};
 ghost use Rattle.compiler.specs.Post.{PlaceAt, SidesAt, Weighs};
 
-use crate::items::{kind_of, start_of, unary_operator};
+use crate::items::{is_kind, start_of, unary_operator};
 use emission::Place;
 use emission::unary::result;
 use flat::item::Kind;
 use word::lists::word;
 
-// Where the value is, when d temporaries are in use before. It calls itself, since an operator's place depends on its operand's.
+// Where the value is, when d temporaries are in use before. It calls itself, since an operator's place depends on its operand's. Three tests, since it is asked of
+// each expression: a match of all kinds is a jump by a table, which costs more.
 pub fn place_of(words: &[u32], end: usize, d: u32) -> Place
     ensures { PlaceAt words.now end d (placed result) }
 {
     if end < 4 {
         return Place::Temporary(d);
     }
-    let Ok(kind) = kind_of(words, end) else {
-        return Place::Temporary(d);
-    };
-    match kind {
-        Kind::Number => Place::Constant(word(words, end - 2)),
-        Kind::Local => Place::Local(word(words, end - 2)),
-        Kind::Unary => {
-            let o = unary_operator(words, end);
-            let p = place_of(words, end - 4, d);
-            result(o, p, d)
-        }
-        _ => Place::Temporary(d),
+    if is_kind(words, end, Kind::Number) {
+        return Place::Constant(word(words, end - 2));
     }
+    if is_kind(words, end, Kind::Local) {
+        return Place::Local(word(words, end - 2));
+    }
+    if is_kind(words, end, Kind::Unary) {
+        let o = unary_operator(words, end);
+        let p = place_of(words, end - 4, d);
+        return result(o, p, d);
+    }
+    Place::Temporary(d)
 }
 
 // How many temporaries are in use once a value is at its place.
