@@ -139,9 +139,7 @@ fn interpret(
 ) -> Result<Status, Told> {
     let mut arrays = filled::<u32, { rooms::ARRAYS }>(0);
     let mut log = filled::<u32, { rooms::LOG }>(0);
-    let Answered { said, size } = run::answer_of(
-        text, block, size, values, &mut arrays, &mut log,
-    );
+    let Answered { said, size } = run::answer_of(text, block, size, values, &mut arrays, &mut log);
     match said {
         Err(refusal) => texts::refused(rt, given, text, refusal, size),
         Ok(ran) => {

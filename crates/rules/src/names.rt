@@ -12,6 +12,8 @@ use word::lists::{item_or, word};
 // Words of a local's entry, and which is what: the table is words that the caller lends, since no part has a heap.
 pub const LOCAL_WORDS: usize = 4;
 
+pub const LOCAL_PLACE: usize = 0;
+
 pub const LOCAL_LENGTH: usize = 1;
 
 pub const LOCAL_TYPE: usize = 2;

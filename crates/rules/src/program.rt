@@ -11,9 +11,13 @@ use word::lists::word;
 // locals.
 pub const GLOBAL_WORDS: usize = 2;
 
+pub const GLOBAL_HEADER: usize = 0;
+
 pub const GLOBAL_VALUE: usize = 1;
 
-// Words of a header in the tree: its name's place and length, and of an array its size.
+// Words of a header in the tree: its kind, its name's place and length, and of an array its size.
+pub const HEADER_KIND: usize = 0;
+
 pub const NAME_PLACE: usize = 1;
 
 pub const NAME_LENGTH: usize = 2;
