@@ -84,8 +84,10 @@ pub fn load(w: u32, memory: &Memory, registers: &mut Registers, pc: u32) -> Resu
     ensures { Carries (decode_load w) registers.old pc memory.now registers.new (pc_after pc result) memory.now (status_after result) }
 {
     let at = add(first(registers, w), imm_i(w));
-    let s = Width::try_from(funct3(w))?;
-    load_as(s, at, w, memory, registers, pc)
+    match Width::try_from(funct3(w))? {
+        Width::Word => load_as(Width::Word, at, w, memory, registers, pc),
+        s => load_as(s, at, w, memory, registers, pc),
+    }
 }
 
 // A store of this width to this address, or fault 3.
@@ -106,8 +108,11 @@ pub fn store(w: u32, memory: &mut Memory, registers: &Registers, pc: u32) -> Res
 {
     let at = add(first(registers, w), imm_s(w));
     let v = second(registers, w);
-    let s = store_of(funct3(w))?;
-    store_as(s, at, v, memory, pc)
+    // Words, most of all stores, on a way of their own, which asks for the width once.
+    match store_of(funct3(w))? {
+        Width::Word => store_as(Width::Word, at, v, memory, pc),
+        s => store_as(s, at, v, memory, pc),
+    }
 }
 
 // 37: lui.
