@@ -58,12 +58,14 @@ pub fn answer(
     Ok(())
 }
 
-// Bytes put into memory, from `at` on.
+// Bytes put into memory, from `at` on. By one and one: `copy_from_slice` would have a program in C bring a `memmove`.
 pub fn place(memory: &mut [u8], at: usize, bytes: &[u8])
     requires { at + length bytes.now ≤ length memory.old }
     ensures { memory.new ≡ placed memory.old at bytes.now }
 {
-    memory[at..at + bytes.len()].copy_from_slice(bytes);
+    for (j, byte) in bytes.iter().enumerate() {
+        memory[at + j] = *byte;
+    }
 }
 
 // Memory at the start.
