@@ -1,7 +1,7 @@
 -- A scan backwards finds where an expression starts: between its start and the scan lie as many things as are still needed.
 use Prim.Native.Nat.{ℕ, zero, suc, ◌+◌, ◌-◌, ◌≤◌, ◌<◌}
 use native.Mathlib.Omega.{arith}
-use mathlib.Core.Path.{◌≡◌, refl, sym, subst}
+use mathlib.Core.Path.{◌≡◌, refl, sym, ap, ◌∙◌, subst}
 use mathlib.Core.List.{List}
 use Rattle.language.specs.Core.{Expr, Args}
 use Rattle.flat.specs.Words.{word}
@@ -10,6 +10,30 @@ use Rattle.compiler.specs.Lies.{Ends, second, Lies, LieAll}
 use Rattle.compiler.specs.Lies as L
 use Rattle.compiler.specs.Post.{operands_of, Starts}
 use Rattle.compiler.proofs.Views.{ends}
+
+-- by the table, once the kind is known
+pub operands_are : (k b : ℕ) {x w : ℕ} → x ≡ w → x ≡ k → operands_of k b ≡ operands_of w b
+operands_are k b e f = ap (λ (y : ℕ). operands_of y b) (sym f ∙ e)
+
+-- the kinds that take operands
+abbrev pub NoOperands : ℕ → Type 0
+NoOperands k = ((((((Unit {0} × (k ≡ 2 → ⊥)) × (k ≡ 3 → ⊥)) × (k ≡ 4 → ⊥)) × (k ≡ 5 → ⊥)) × (k ≡ 6 → ⊥)) × (k ≡ 7 → ⊥)) × (k ≡ 8 → ⊥)
+
+without : (k b : ℕ) → NoOperands k → 0 ≡ operands_of k b
+unfolding operands_of
+without zero b r = refl
+without (suc zero) b r = refl
+without (suc (suc zero)) b r = absurd (r.0.0.0.0.0.0.1 refl)
+without (suc (suc (suc zero))) b r = absurd (r.0.0.0.0.0.1 refl)
+without (suc (suc (suc (suc zero)))) b r = absurd (r.0.0.0.0.1 refl)
+without (suc (suc (suc (suc (suc zero))))) b r = absurd (r.0.0.0.1 refl)
+without (suc (suc (suc (suc (suc (suc zero)))))) b r = absurd (r.0.0.1 refl)
+without (suc (suc (suc (suc (suc (suc (suc zero))))))) b r = absurd (r.0.1 refl)
+without (suc (suc (suc (suc (suc (suc (suc (suc zero)))))))) b r = absurd (r.1 refl)
+without (suc (suc (suc (suc (suc (suc (suc (suc (suc n))))))))) b r = refl
+
+pub no_operands : (b : ℕ) {x w : ℕ} → x ≡ w → NoOperands x → 0 ≡ operands_of w b
+no_operands b {x} e r = without x b r ∙ ap (λ (y : ℕ). operands_of y b) e
 
 -- what a scan may come upon: an expression, or a left side with the item behind it
 pub data Part (ws : List ℕ) (i j : ℕ) : Type 0 where

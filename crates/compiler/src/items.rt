@@ -47,23 +47,37 @@ pub fn strict_operator(words: &[u32], end: usize) -> Strict
     Strict::try_from(number).unwrap_or(Strict::Rem)
 }
 
-// How many operands the item takes that ends at `end`. A call, which says it in a word of its own, goes first, so that for the others it is a small table's number:
-// each item that a scan passes over is looked at here, and one match of all kinds is a jump by a table, which costs the scan a third more.
-#[tactic(auto, unfolding(crate::specs::Post::operands_of))]
+// The numbers of the kinds that take operands.
+const ELEMENT: u32 = Kind::Element as u32;
+
+const CALL: u32 = Kind::Call as u32;
+
+const UNARY: u32 = Kind::Unary as u32;
+
+const STRICT: u32 = Kind::Strict as u32;
+
+const AND: u32 = Kind::And as u32;
+
+const OR: u32 = Kind::Or as u32;
+
+const JOIN: u32 = Kind::Join as u32;
+
+// How many operands the item takes that ends at `end`: by its number, since each item that a scan passes over is looked at here, and a match of `Kind` is a jump
+// by a table or a table's word, with which `build` of a long right side takes up to twice the time.
 pub fn operands(words: &[u32], end: usize) -> u32
     requires { 4 ≤ end }
     ensures { result ≡ operands_of (get_or words.now (end - 4) 0) (second_of words.now end) }
 {
-    if is_kind(words, end, Kind::Call) {
-        return word(words, end - 1);
-    }
-    let Ok(kind) = kind_of(words, end) else {
-        return 0;
-    };
-    match kind {
-        Kind::Number | Kind::Local | Kind::Call => 0,
-        Kind::Element | Kind::Unary | Kind::And | Kind::Or => 1,
-        Kind::Strict | Kind::Join => 2,
+    let k = word(words, end - 4);
+    match k {
+        ELEMENT => 1,
+        CALL => word(words, end - 1),
+        UNARY => 1,
+        STRICT => 2,
+        AND => 1,
+        OR => 1,
+        JOIN => 2,
+        _ => 0,
     }
 }
 
