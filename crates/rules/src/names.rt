@@ -99,10 +99,10 @@ pub fn find_local(text: &[u8], locals: &[u32], count: usize, name: Name) -> Opti
     ensures { FindsLocal text.now locals.now count (part text.now name.place name.length) result }
 {
     for i in (0..count).rev() {
-        // The name alone, and its length first, by which most entries are passed over.
+        // The name alone: most entries are passed over.
         let at = LOCAL_WORDS * i;
-        let length = word(locals, at + LOCAL_LENGTH);
         let place = word(locals, at);
+        let length = word(locals, at + LOCAL_LENGTH);
         if same_name(text, Name { place, length }, name) {
             return Some(Local::read(locals, i));
         }

@@ -74,10 +74,10 @@ impl<'a> Program<'a> {
         ensures { FindsBy (F.post is_wanted) self.now result }
     {
         for i in (0..self.count).rev() {
-            // The header's place alone, and the name's length first, by which most entries are passed over.
+            // The header's place alone: most entries are passed over.
             let h = word(self.globals, GLOBAL_WORDS * i) as usize;
-            let length = word(self.tree, h + NAME_LENGTH);
             let place = word(self.tree, h + NAME_PLACE);
+            let length = word(self.tree, h + NAME_LENGTH);
             if is_wanted(Name { place, length }) {
                 return Some(Global::read(self.globals, i));
             }
