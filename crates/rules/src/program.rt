@@ -1,7 +1,7 @@
 // What is read and never written: the text, its tree, and the arrays and functions that names stand for.
 ghost use Rattle.std.specs.Prelude.{◌≡◌, ◌+◌, ◌*◌, ◌≤◌, eqb, get_or};
 ghost use Rattle.grammar.specs.Flat.{array_kind};
-ghost use Rattle.rules.specs.Bounds.{most_entries, most_places};
+ghost use Rattle.rules.specs.Bounds.{most_entries};
 
 use crate::names::{Name, same_name};
 use grammar::tree::Declaration;
@@ -29,17 +29,6 @@ pub fn is_array(tree: &[u32], h: usize) -> bool
     ensures { result ≡ eqb (get_or tree.now h 0) array_kind }
 {
     word(tree, h) == Declaration::Array as u32
-}
-
-// The place of the name of the header at h. It stands before the length, so that one test serves both words: this takes a third off a look-up.
-fn name_place(tree: &[u32], h: usize) -> u32
-    requires { h ≤ most_places }
-    ensures { result ≡ get_or tree.now (h + 1) 0 }
-{
-    if h + NAME_LENGTH < tree.len() {
-        return tree[h + NAME_PLACE];
-    }
-    word(tree, h + NAME_PLACE)
 }
 
 // An array or a function: where its header stands in the tree, and its offset or its number.
@@ -87,7 +76,7 @@ impl<'a> Program<'a> {
         for i in (0..self.count).rev() {
             // The header's place alone: most entries are passed over.
             let h = word(self.globals, GLOBAL_WORDS * i) as usize;
-            let place = name_place(self.tree, h);
+            let place = word(self.tree, h + NAME_PLACE);
             let length = word(self.tree, h + NAME_LENGTH);
             if is_wanted(Name { place, length }) {
                 return Some(Global::read(self.globals, i));
