@@ -1,5 +1,5 @@
 -- The numbers of kinds, operators and traps. In words a kind or an operator is its place in its table in Words.antt; proofs/Tables.antt has the laws.
-use Rattle.std.specs.Prelude.{◌≡◌, ℕ, ◌<◌, Result, MatchResult}
+use Rattle.std.specs.Prelude.{◌≡◌, ℕ, ◌<◌, [], ◌∷◌, get_or, Result, MatchResult}
 use Rattle.language.specs.Tree as T
 use Rattle.language.specs.Meaning.{division_by_zero, index_outside, too_many_activations, log_full}
 use Rattle.flat.specs.Items.{malformed}
@@ -71,6 +71,13 @@ strict_number OV.Sub = 7
 strict_number OV.Mul = 8
 strict_number OV.Div = 9
 strict_number OV.Rem = 10
+
+-- the operators that numbers name: those past the table name the last
+abbrev pub unary_named : ℕ → U.Unary
+unary_named n = get_or (UV.Negate ∷ []) n UV.Not
+
+abbrev pub strict_named : ℕ → O.Strict
+strict_named n = get_or (OV.Eq ∷ OV.Ne ∷ OV.Lt ∷ OV.Le ∷ OV.Gt ∷ OV.Ge ∷ OV.Add ∷ OV.Sub ∷ OV.Mul ∷ OV.Div ∷ []) n OV.Rem
 
 abbrev pub trap_number : R.Trap → ℕ
 trap_number RV.Malformed = malformed

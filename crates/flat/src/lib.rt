@@ -7,6 +7,7 @@ pub mod operator; // operators: which one an item is
 pub mod statement; // statements: their header's words and their kinds
 pub mod program; // programs: their first words and a function's words
 pub mod trap; // how runs trap
+pub mod number; // what is written as a number, and the operator that a number names
 
 // A number that no kind or no operator has.
 #[derive(Clone, Copy, Debug, PartialEq, Eq)]
