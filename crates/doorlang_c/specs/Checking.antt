@@ -1,7 +1,7 @@
 -- What `doorlang_check` tells: how many elements the arrays of an accepted text have, or where the text is at fault.
 use Rattle.std.specs.Prelude.{ℕ, Result, Ok, Err}
 use Rattle.toolchain.specs.declared.refusals.Refusal.{Refusal}
-use Rattle.toolchain.specs.Refusals.{number_of}
+use Rattle.toolchain.specs.Checking.{number_of}
 use Rattle.doorlang_c.specs.Told.{Told, told, place_of}
 
 pub record Figures : Type 0 where

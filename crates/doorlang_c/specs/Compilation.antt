@@ -1,7 +1,7 @@
 -- What `doorlang_compile` tells: the image's size in bytes, or where the text is at fault.
 use Rattle.std.specs.Prelude.{ℕ, Result, Ok, Err}
 use Rattle.toolchain.specs.declared.refusals.Refusal.{Refusal}
-use Rattle.toolchain.specs.Refusals.{number_of}
+use Rattle.toolchain.specs.Checking.{number_of}
 use Rattle.doorlang_c.specs.Told.{Told, told, place_of}
 
 pub record Figures : Type 0 where

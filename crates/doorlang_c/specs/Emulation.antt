@@ -3,7 +3,7 @@ use Rattle.std.specs.Prelude.{ℕ, Result, Ok, Err}
 use Rattle.emulator.specs.declared.run.Ended.{Ended}
 use Rattle.emulator_c.specs.Told.{stop_of, number_of}
 use Rattle.toolchain.specs.declared.refusals.Refusal.{Refusal}
-use Rattle.toolchain.specs.Refusals.{number_of as refused_by}
+use Rattle.toolchain.specs.Checking.{number_of as refused_by}
 use Rattle.doorlang_c.specs.Told.{Told, told}
 
 pub record Figures : Type 0 where

@@ -4,7 +4,7 @@ use Rattle.interpreter.specs.declared.Outcome.{Outcome}
 use Rattle.interpreter.specs.declared.Outcome.TheVariants.{Finished, Trapped, OutOfFuel}
 use Rattle.interpreter.specs.declared.Ran.{Ran}
 use Rattle.toolchain.specs.declared.refusals.Refusal.{Refusal}
-use Rattle.toolchain.specs.Refusals.{number_of}
+use Rattle.toolchain.specs.Checking.{number_of}
 use Rattle.doorlang_c.specs.Told.{Told, told, place_of}
 
 -- document 01 §5: which outcome

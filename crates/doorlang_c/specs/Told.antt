@@ -1,7 +1,7 @@
 -- What the entries tell a program in C: an answer, and figures, which stand where its pointers lead.
 use Rattle.std.specs.Prelude.{ℕ, ◌≡◌, unwrap_or}
 use Rattle.toolchain.specs.declared.refusals.Refusal.{Refusal}
-use Rattle.toolchain.specs.Refusals.{place_in}
+use Rattle.toolchain.specs.Checking.{place_in}
 
 pub record Told (F : Type 0) : Type 0 where
   pub answer : ℕ

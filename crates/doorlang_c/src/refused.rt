@@ -1,6 +1,6 @@
 // What a refusal tells.
 ghost use Rattle.std.specs.Prelude.{◌≡◌};
-ghost use Rattle.toolchain.specs.Refusals.{number_of};
+ghost use Rattle.toolchain.specs.Checking.{number_of};
 ghost use Rattle.doorlang_c.specs.Told.{told, place_of};
 
 use toolchain::Refusal;

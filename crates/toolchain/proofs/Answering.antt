@@ -20,11 +20,11 @@ use Rattle.tokens.specs.declared.Unread.TheVariants as U
 use Rattle.flat.specs.Words.{words_of, words_then}
 use Rattle.declarations.specs.Post.{Elaborates, Kept}
 use Rattle.rules.specs.declared.Broken as R
-use Rattle.toolchain.specs.Checking.{Declined, unreadable, broken, Answered, accepted, declined, core_room}
+use Rattle.toolchain.specs.Checking.{Declined, unreadable, broken, Answered, accepted, declined, core_room, number_of, place_of}
 use Rattle.toolchain.specs.Accepting.{Made, Elaborated, elements_of}
 use Rattle.toolchain.specs.declared.refusals.Refusal.{Refusal}
 use Rattle.toolchain.specs.declared.refusals.Refusal.TheVariants.{Broken}
-use Rattle.toolchain.specs.Refusals.{number_of, place_of, answer_in, from_reading}
+use Rattle.toolchain.specs.Refusals.{answer_in, from_reading}
 
 -- the number of elements stands in the program's words
 elements_at : (p : Program) (more core : List ℕ) → core ≡ words_of p ++ more → elements_of core ≡ p.elements

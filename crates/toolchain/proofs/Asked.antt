@@ -10,7 +10,8 @@ use Rattle.processor.specs.Machine.{memory_bytes, register_count}
 use Rattle.emulator.specs.declared.image.Refusal as E
 use Rattle.emulator.specs.declared.image.Refusal.TheVariants as R
 use Rattle.emulator.specs.Refusal as N
-use Rattle.toolchain.specs.Refusals.{number_of, from_run}
+use Rattle.toolchain.specs.Checking.{number_of}
+use Rattle.toolchain.specs.Refusals.{from_run}
 use Rattle.toolchain.specs.Emulation.{resume_answer}
 use Rattle.processor.specs.Image.{Lent, longest_code, longest_input, fits, accepted, answer_of}
 

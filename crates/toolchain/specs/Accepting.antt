@@ -7,12 +7,11 @@ use Rattle.language.specs.Core.{Program}
 use Rattle.language.specs.Text.{Accepted}
 use Rattle.grammar.specs.Flat.{tree_words}
 use Rattle.flat.specs.Words.{words_of}
-use Rattle.toolchain.specs.Checking.{Enough, Declined, core_room}
+use Rattle.toolchain.specs.Checking.{Enough, Declined, core_room, number_of, place_of}
 use Rattle.toolchain.specs.Interpretation.{Lent, Interprets}
 use Rattle.interpreter.specs.declared.Ran as I
 use Rattle.toolchain.specs.declared.work.Work.{Work}
 use Rattle.toolchain.specs.declared.refusals.Refusal.{Refusal}
-use Rattle.toolchain.specs.Refusals.{number_of, place_of}
 
 -- the text's program, whose n words stand first in the core's buffer
 pub record Made (text : List ℕ) (n : ℕ) (core : List ℕ) : Type 0 where

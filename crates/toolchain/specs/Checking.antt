@@ -1,5 +1,6 @@
--- Claims 1 and 2 of `check`: document 01 §1's answers to a text, the place that a refusal carries, and how many elements an accepted text's arrays have.
-use Rattle.std.specs.Prelude.{ℕ, ◌≤◌, ◌≡◌, List, length, Result, Ok, Err, ⊤}
+-- Claims 1 and 2 of `check`: document 01 §1's answers to a text, the number and the place that a refusal carries, and how many elements an accepted
+-- text's arrays have.
+use Rattle.std.specs.Prelude.{ℕ, ◌≤◌, ◌≡◌, List, length, Option, Some, None, unwrap_or, Result, Ok, Err, ⊤}
 use Rattle.language.specs.Tree.{Place}
 use Rattle.language.specs.Tokens.{Answer.refused}
 use Rattle.language.specs.Core.{Program}
@@ -10,7 +11,7 @@ use Rattle.grammar.specs.Parse.{tree_of}
 use Rattle.toolchain.specs.declared.work.Work.{Work}
 use Rattle.toolchain.specs.declared.refusals.Refusal.{Refusal}
 use Rattle.toolchain.specs.declared.refusals.Refusal.TheVariants.{Room}
-use Rattle.toolchain.specs.Refusals.{number_of, place_of}
+use Rattle.toolchain.specs.declared.refusals.Refusal.TheVariants as R
 
 -- Working room: four lent buffers, so many words each. What they hold before and afterwards is of no account.
 abbrev pub work : List ℕ → List ℕ → List ℕ → List ℕ → Work
@@ -33,6 +34,27 @@ pub record Enough (w : Work) : Type 0 where
 abbrev pub Suffices : Work → Result ⊤ Refusal → Type 0
 Suffices w (Ok u) = Enough w
 Suffices w (Err r) = (r ≡ Room) × (Enough w → ⊥)
+
+-- The answers that refuse: each has the documents' number (document 01 §1, document 03 §5), and those of a text a place in it.
+abbrev pub number_of : Refusal → ℕ
+number_of (R.Unreadable at) = 1
+number_of (R.Broken at) = 2
+number_of R.TooLong = 3
+number_of R.Code = 4
+number_of R.Input = 5
+number_of R.Room = 6
+
+abbrev pub place_in : Refusal → Option Place
+place_in (R.Unreadable at) = Some at
+place_in (R.Broken at) = Some at
+place_in R.TooLong = None
+place_in R.Code = None
+place_in R.Input = None
+place_in R.Room = None
+
+-- the place, and 0 where there is none
+abbrev pub place_of : Refusal → Place
+place_of r = unwrap_or (place_in r) 0
 
 -- Document 01 §1: the refusals of a text. Each carries a place in the text: of an unreadable text that of the token at fault, or the text's length
 -- (`tree_of`); of a broken rule that which `elaborate` gives.

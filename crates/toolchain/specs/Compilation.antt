@@ -7,10 +7,9 @@ use Rattle.processor.specs.Image.{longest_code}
 use Rattle.claims.specs.Keeps.{Keeps}
 use Rattle.codegen.specs.Image.{image}
 use Rattle.codegen.specs.Costs.{costs}
-use Rattle.toolchain.specs.Checking.{Enough, Declined}
+use Rattle.toolchain.specs.Checking.{Enough, Declined, number_of, place_of}
 use Rattle.toolchain.specs.declared.work.Work.{Work}
 use Rattle.toolchain.specs.declared.refusals.Refusal.{Refusal}
-use Rattle.toolchain.specs.Refusals.{number_of, place_of}
 
 -- The refusals: working room too short is 6 at once; else 1 or 2 for the text, and 3 where the image is longer than document 03 §5 lets it be, or than its buffer.
 pub data Refuses (text : List ℕ) (w : Work) (before : List ℕ) : ℕ → Place → Type 0 where

@@ -6,7 +6,7 @@ use Rattle.processor.specs.Run.{Run, onward}
 use Rattle.processor.specs.Image.{Lent, accepted, answer_of, run_image}
 use Rattle.emulator.specs.declared.run.Ended.{Ended}
 use Rattle.toolchain.specs.declared.refusals.Refusal.{Refusal}
-use Rattle.toolchain.specs.Refusals.{number_of}
+use Rattle.toolchain.specs.Checking.{number_of}
 
 -- What is lent to be changed.
 pub record Buffers : Type 0 where

@@ -7,10 +7,9 @@ use Rattle.language.specs.Text.{Accepted}
 use Rattle.language.specs.Meaning.{Run, run_of}
 use Rattle.interpreter.specs.declared.Ran as I
 use Rattle.interpreter.specs.Post.{outcome_of}
-use Rattle.toolchain.specs.Checking.{Enough, Declined}
+use Rattle.toolchain.specs.Checking.{Enough, Declined, number_of, place_of}
 use Rattle.toolchain.specs.declared.work.Work.{Work}
 use Rattle.toolchain.specs.declared.refusals.Refusal.{Refusal}
-use Rattle.toolchain.specs.Refusals.{number_of, place_of}
 
 -- What is lent to be changed, working room apart.
 pub record Lent : Type 0 where

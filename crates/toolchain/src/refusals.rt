@@ -1,7 +1,8 @@
 // The answers that refuse.
 ghost use Rattle.std.specs.Prelude.{◌≡◌};
 ghost use Rattle.toolchain.specs.declared.refusals.Refusal.TheVariants as refusal;
-ghost use Rattle.toolchain.specs.Refusals.{number_of, place_in, from_reading, from_run};
+ghost use Rattle.toolchain.specs.Checking.{number_of, place_in};
+ghost use Rattle.toolchain.specs.Refusals.{from_reading, from_run};
 
 use compiler::TooLong;
 use emulator::image;
