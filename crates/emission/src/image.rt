@@ -5,7 +5,6 @@ ghost use Rattle.word.specs.Bytes.{bytes_of as bytes_in, bytes_of_words};
 ghost use Rattle.processor.specs.declared.Alu.TheVariants.{Add as AddOf};
 ghost use Rattle.symbolic.specs.Symbolic.{x0, request, opi, ecall as ecall_of};
 ghost use Rattle.symbolic.specs.Fine.{far};
-ghost use Rattle.flat.specs.Numbers.{trap_number};
 ghost use Rattle.codegen.specs.Operators.{trapping as trapping_of};
 ghost use Rattle.codegen.specs.Image.{starting as starting_of, traps as traps_of};
 ghost use Rattle.emission.specs.Tape.{Emits};
@@ -16,6 +15,7 @@ use crate::functions::{LIMIT, ecall};
 use crate::jumps::RA;
 use crate::places::{ANSWER, REQUEST, SP};
 use crate::tape::Tape;
+use flat::number::Numbered;
 use flat::trap::Trap;
 use processor::{Alu, Instr};
 use word::bytes::bytes_of;
@@ -55,12 +55,12 @@ pub fn starting(tape: &mut Tape, main: usize)
     tape.put(Instr::Lui(SP, STACK_START));
 }
 
-// A trap's stub.
-pub fn trapping(tape: &mut Tape, trap: Trap)
-    ensures { OnTape (Emits (trapping_of (trap_number trap))) tape.old tape.new }
+// A trap's stub, of a trap or of any number.
+pub fn trapping<T: Numbered>(tape: &mut Tape, trap: T)
+    ensures { OnTape (Emits (trapping_of (T.number_of trap))) tape.old tape.new }
 {
     asking(tape, Service::Trap);
-    let number = trap as u32;
+    let number = trap.number();
     tape.put(Instr::OpImm(Alu::Add, ANSWER, 0, number));
 }
 

@@ -1,4 +1,4 @@
-// The strict operators: as a value, as one branch, as one instruction with an immediate.
+// The strict operators, each by itself or by its number: as a value, as one branch, as one instruction with an immediate.
 ghost use Rattle.std.specs.Prelude.{◌≡◌, ◌∷◌, ◌-◌, ◌≤◌};
 ghost use Rattle.processor.specs.declared.Alu.TheVariants.{Add as AddOf};
 ghost use Rattle.processor.specs.declared.Cond.TheVariants.{Ne as NeOf};
@@ -18,6 +18,7 @@ use crate::jumps::{RA, comparing, testing};
 use crate::places::{fetch, keep, kept, short, source, target_of};
 use crate::tape::Tape;
 use crate::{Jump, Place, Sides, Work};
+use flat::number::Names;
 use flat::operator::Strict;
 use processor::{Alu, Cond, Instr};
 use word::arithmetic::neg;
@@ -26,10 +27,10 @@ use word::arithmetic::neg;
 pub const DIVISION_STUB: usize = 6;
 
 // What an operator is as a value.
-pub fn work(o: Strict) -> Work
-    ensures { worked result ≡ work_of (strict_of o) }
+pub fn work<O: Names<Strict>>(o: O) -> Work
+    ensures { worked result ≡ work_of (strict_of (O.named o)) }
 {
-    match o {
+    match o.operator() {
         Strict::Eq => Work::Tested(Cond::Eq, false),
         Strict::Ne => Work::Tested(Cond::Ne, false),
         Strict::Lt => Work::Plain(Alu::Slt, false),
@@ -45,10 +46,10 @@ pub fn work(o: Strict) -> Work
 }
 
 // The one branch that it is as a condition, if it is one: a comparison, and whether the sides are exchanged.
-pub fn relation(o: Strict) -> Option<(Cond, bool)>
-    ensures { optional result ≡ relation_of (strict_of o) }
+pub fn relation<O: Names<Strict>>(o: O) -> Option<(Cond, bool)>
+    ensures { optional result ≡ relation_of (strict_of (O.named o)) }
 {
-    match o {
+    match o.operator() {
         Strict::Eq => Some((Cond::Eq, false)),
         Strict::Ne => Some((Cond::Ne, false)),
         Strict::Lt => Some((Cond::Lt, false)),
@@ -67,10 +68,10 @@ pub fn if_short(o: Alu, n: u32) -> Option<(Alu, u32)>
 }
 
 // The one operation with an immediate that an operator is with a constant on the right, if it is one.
-pub fn with_constant(o: Strict, n: u32) -> Option<(Alu, u32)>
-    ensures { optional result ≡ with_constant (strict_of o) n }
+pub fn with_constant<O: Names<Strict>>(o: O, n: u32) -> Option<(Alu, u32)>
+    ensures { optional result ≡ with_constant (strict_of (O.named o)) n }
 {
-    match o {
+    match o.operator() {
         Strict::Lt => if_short(Alu::Slt, n),
         Strict::Add => if_short(Alu::Add, n),
         Strict::Sub => if_short(Alu::Add, neg(n)),
@@ -79,8 +80,8 @@ pub fn with_constant(o: Strict, n: u32) -> Option<(Alu, u32)>
 }
 
 // The same with its right side at a place.
-pub fn immediate(o: Strict, q: Place) -> Option<(Alu, u32)>
-    ensures { optional result ≡ immediate_of (strict_of o) (placed q) }
+pub fn immediate<O: Names<Strict>>(o: O, q: Place) -> Option<(Alu, u32)>
+    ensures { optional result ≡ immediate_of (strict_of (O.named o)) (placed q) }
 {
     match q {
         Place::Constant(n) => with_constant(o, n),
@@ -125,9 +126,9 @@ pub fn tested(tape: &mut Tape, c: Cond, r: u32, s: u32, d: u32)
 }
 
 // An operator on two registers, whose result becomes temporary d.
-pub fn working(tape: &mut Tape, o: Strict, r: u32, s: u32, d: u32)
+pub fn working<O: Names<Strict>>(tape: &mut Tape, o: O, r: u32, s: u32, d: u32)
     requires { tape.old.at ≤ far }
-    ensures { OnTape (EmitsFor (λ p q. working_of (work_of (strict_of o)) p q d) r s) tape.old tape.new }
+    ensures { OnTape (EmitsFor (λ p q. working_of (work_of (strict_of (O.named o))) p q d) r s) tape.old tape.new }
 {
     let w = work(o);
     match w {
@@ -150,9 +151,9 @@ pub fn working(tape: &mut Tape, o: Strict, r: u32, s: u32, d: u32)
 }
 
 // The value of an operator becomes temporary d.
-pub fn operating(tape: &mut Tape, o: Strict, sides: Sides, d: u32)
+pub fn operating<O: Names<Strict>>(tape: &mut Tape, o: O, sides: Sides, d: u32)
     requires { tape.old.at ≤ far }
-    ensures { OnTape (Emits (operating_of (strict_of o) (placed sides.left) (placed sides.right) d)) tape.old tape.new }
+    ensures { OnTape (Emits (operating_of (strict_of (O.named o)) (placed sides.left) (placed sides.right) d)) tape.old tape.new }
 {
     let from = source(sides.left, 0);
     match immediate(o, sides.right) {
@@ -170,9 +171,9 @@ pub fn operating(tape: &mut Tape, o: Strict, sides: Sides, d: u32)
 }
 
 // Jumps where the truth of an operator is the jump's: by one branch if it is one, else by its value.
-pub fn deciding(tape: &mut Tape, way: Jump, o: Strict, sides: Sides, d: u32)
+pub fn deciding<O: Names<Strict>>(tape: &mut Tape, way: Jump, o: O, sides: Sides, d: u32)
     requires { tape.old.at ≤ way.to }
-    ensures { OnTape (EmitsAny (λ entry. deciding_by entry way.near (relation_of (strict_of o)) way.when (strict_of o) (placed sides.left) (placed sides.right) d (way.to - tape.old.at))) tape.old tape.new }
+    ensures { OnTape (EmitsAny (λ entry. deciding_by entry way.near (relation_of (strict_of (O.named o))) way.when (strict_of (O.named o)) (placed sides.left) (placed sides.right) d (way.to - tape.old.at))) tape.old tape.new }
 {
     match relation(o) {
         Some(comparison) => comparing(tape, way, comparison, sides),

@@ -1,8 +1,10 @@
 -- The numbers of src are the places in the tables: each operator's number stands for it, as words are written too, and past the last there is none.
 use mathlib.Core.Path.{◌≡◌, refl}
-use Prim.Native.Nat.{ℕ, ◌<◌}
+use mathlib.Core.List.{List, [], ◌∷◌, map}
+use Prim.Native.Nat.{ℕ, zero, suc, ◌<◌}
 use native.Mathlib.Omega.{arith}
 use lib.ListN.{get_or, get_or-eq_default}
+use Rattle.language.specs.Tree as T
 use Rattle.flat.specs.declared.operator.Unary as U
 use Rattle.flat.specs.declared.operator.Unary.TheVariants as UV
 use Rattle.flat.specs.declared.operator.Strict as O
@@ -10,7 +12,7 @@ use Rattle.flat.specs.declared.operator.Strict.TheVariants as OV
 use Rattle.flat.specs.Items.{unary, strict, unknown}
 use Rattle.flat.specs.Words as W
 use Rattle.flat.specs.Words.{unaries, stricts, kinds, kind_of}
-use Rattle.flat.specs.Numbers.{unary_number, strict_number, unary_of, strict_of}
+use Rattle.flat.specs.Numbers.{unary_number, strict_number, unary_of, strict_of, unary_named, strict_named}
 
 pub unary_at : (o : U.Unary) → get_or unaries (unary_number o) unknown ≡ unary (unary_of o)
 unary_at UV.Negate = refl
@@ -57,3 +59,15 @@ strict_words OV.Sub = refl
 strict_words OV.Mul = refl
 strict_words OV.Div = refl
 strict_words OV.Rem = refl
+
+-- What a number names is the operator at that place in the table, and past the last the last one.
+mapped : {A B : Type 0} (f : A → B) (xs : List A) (n : ℕ) (d : A) → f (get_or xs n d) ≡ get_or (map f xs) n (f d)
+mapped f [] n d = refl
+mapped f (x ∷ xs) zero d = refl
+mapped f (x ∷ xs) (suc n) d = mapped f xs n d
+
+pub unary_of_named : (n : ℕ) → unary_of (unary_named n) ≡ get_or (T.negate ∷ []) n T.not
+unary_of_named n = mapped unary_of (UV.Negate ∷ []) n UV.Not
+
+pub strict_of_named : (n : ℕ) → strict_of (strict_named n) ≡ get_or (T.eq ∷ T.ne ∷ T.lt ∷ T.le ∷ T.gt ∷ T.ge ∷ T.add ∷ T.sub ∷ T.mul ∷ T.div ∷ []) n T.rem
+strict_of_named n = mapped strict_of (OV.Eq ∷ OV.Ne ∷ OV.Lt ∷ OV.Le ∷ OV.Gt ∷ OV.Ge ∷ OV.Add ∷ OV.Sub ∷ OV.Mul ∷ OV.Div ∷ []) n OV.Rem

@@ -4,4 +4,4 @@ use Rattle.emission.proofs.Ends.{traps_by}
 use Rattle.emission.proofs.image.trapping.Goals as goal
 
 pub returns : goal.returns
-returns c = after_two c.asking.ensures c.put.ensures (traps_by c.args.trap c.asking.ensures.says c.put.ensures.says)
+returns g c = after_two c.asking.ensures c.put.ensures (traps_by c.number-number.ensures c.asking.ensures.says c.put.ensures.says)
