@@ -96,12 +96,12 @@ pub fn call(
 }
 
 // A call as a statement, with n arguments: its result, if the function has one, is dropped.
-pub fn dropped(
+pub fn dropped<K: Copy>(
     program: &Program,
     types: &[u32],
     starts: &[u32],
     h: usize,
-    head: Head,
+    head: Head<K>,
     n: u32,
 ) -> Option<Made>
     requires { h ≤ most_places }

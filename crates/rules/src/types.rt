@@ -1,5 +1,6 @@
 // Types, and the numbers that stand for them in the lent words.
 ghost use Rattle.std.specs.Prelude.{◌≡◌, ℕ, ◌≤◌, refl};
+ghost use Rattle.std.proofs.Math.Option as M;
 ghost use Rattle.language.specs.Tree.{Ty};
 ghost use Rattle.grammar.specs.Numbers.{number_of_type};
 ghost use Rattle.rules.specs.Tables.{type_of, result_of, types_from, same_types};
@@ -24,6 +25,30 @@ pub fn result_type(n: u32) -> Option<ValueType>
         return None;
     }
     Some(value_type(n))
+}
+
+// What names a function's result type, if it has one: the type itself, or any number (`result_type`).
+pub trait ResultType: Copy {
+    ghost result_named: { Self → M.Option Ty };
+
+    fn named(self) -> Option<ValueType>
+        ensures { result_in result ≡ result_named self };
+}
+
+impl ResultType for Option<ValueType> {
+    ghost result_named = { result_in };
+
+    fn named(self) -> Option<ValueType> {
+        self
+    }
+}
+
+impl ResultType for u32 {
+    ghost result_named = { result_of };
+
+    fn named(self) -> Option<ValueType> {
+        result_type(self)
+    }
 }
 
 // Whether n types are the same: those from word i of one row on, and every third from word j of the other on.
