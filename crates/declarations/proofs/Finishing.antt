@@ -2,7 +2,7 @@
 use mathlib.Core.Path.{◌≡◌, refl, sym, ap, subst, ◌∙◌}
 use mathlib.Core.Bool.{Bool, true, false}
 use mathlib.Core.List.{List, [], ◌∷◌}
-use mathlib.Core.Option.{Option}
+use mathlib.Core.Option.{Option, none, some}
 use Prim.Native.Nat.{ℕ, ◌+◌, ◌-◌, ◌*◌, ◌<◌}
 use native.Mathlib.Omega.{arith}
 use lib.ListN.{length, drop}
@@ -18,21 +18,19 @@ use Rattle.rules.specs.Tables.{word, result_of}
 use Rattle.rules.specs.Post.{scope_of}
 use Rattle.rules.proofs.Stating.{went, stopped}
 use Rattle.rules.specs.Statements.{Blocked, BlockCase, Blocks, Ends}
-use Rattle.std.specs.Prelude.{Some, None, Result, Ok, Err, ⊤}
-use Rattle.std.specs.Prelude as P
-use Rattle.grammar.specs.declared.tree.ValueType.{ValueType}
+use Rattle.std.specs.Prelude.{Result, Ok, Err, ⊤}
 use Rattle.rules.specs.declared.Broken.{Broken}
-use Rattle.rules.specs.Values.{broken_at, result_in}
+use Rattle.rules.specs.Values.{broken_at}
 use Rattle.declarations.specs.Post.{no_locals, TakeCase, Takes, MustEnd, finished, Made, MakeCase, Finishes, Makes}
 use Rattle.declarations.proofs.Standing as S
 
 -- Whether it must end in return
 
-pub need_not_end : (n : ℕ) (ws : List ℕ) (o : P.Option ValueType) → o ≡ None → MustEnd n ws (result_in o) true
-need_not_end n ws o e = record { by = λ b more q c. rw e refl }
+pub need_not_end : (n : ℕ) (ws : List ℕ) {o : Option Ty} → none ≡ o → MustEnd n ws o true
+need_not_end n ws e = record { by = λ b more q c. rw (← e) refl }
 
-pub must_end_lem : {n : ℕ} {ws : List ℕ} {r : Bool} (o : P.Option ValueType) {t : ValueType} → o ≡ Some t → Ends n ws r → MustEnd n ws (result_in o) r
-must_end_lem o e x = record { by = λ b more q c. rw e (x.by b more q c) }
+pub must_end_lem : {n : ℕ} {ws : List ℕ} {r : Bool} {o : Option Ty} {t : Ty} → some t ≡ o → Ends n ws r → MustEnd n ws o r
+must_end_lem e x = record { by = λ b more q c. rw (← e) (x.by b more q c) }
 
 -- The body
 

@@ -4,19 +4,18 @@ ghost use Rattle.std.proofs.lemmas.List.Edits.{sets};
 ghost use Rattle.language.specs.Rules.{most_functions, most_parameters};
 ghost use Rattle.grammar.specs.Flat.{tree_room};
 ghost use Rattle.rules.specs.Bounds.{most_places, most_words};
-ghost use Rattle.rules.specs.Values.{result_in, globals_of};
+ghost use Rattle.rules.specs.Values.{globals_of};
 ghost use Rattle.declarations.specs.Post.{MustEnd, Rooms, Placed, Finishes, Makes, Passes, Fills};
 
 use crate::globals::{BODY_WORDS, HEADER_WORDS, MOST_PARAMETERS, PARAMETER_WORDS, next};
 use crate::parameters::parameters;
 use crate::{Reached, Site};
 use flat::program;
-use grammar::tree::ValueType;
 use rules::blocks::block;
 use rules::calls::{PARAMETERS, RESULT};
 use rules::endings::ends_in_return;
 use rules::program::{NAME_PLACE, Program, is_array};
-use rules::types::result_type;
+use rules::types::{ResultType, result_type};
 use rules::{Broken, Scope, Spot};
 use word::lists::word;
 
@@ -24,11 +23,11 @@ use word::lists::word;
 const STATEMENTS: usize = 5;
 
 // Whether a function's block ends in return where it must: the n statements from p on, and its result's type.
-pub fn must_end(tree: &[u32], p: usize, n: u32, result_type: Option<ValueType>) -> bool
+pub fn must_end<R: ResultType>(tree: &[u32], p: usize, n: u32, result_type: R) -> bool
     requires { (length tree.now ≤ most_words) × (p ≤ most_places) }
-    ensures { MustEnd n (drop p tree.now) (result_in result_type) result }
+    ensures { MustEnd n (drop p tree.now) (R.result_named result_type) result }
 {
-    match result_type {
+    match result_type.named() {
         None => true,
         Some(_) => ends_in_return(tree, p, n),
     }

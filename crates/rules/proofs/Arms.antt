@@ -3,7 +3,8 @@ use mathlib.Core.Path.{◌≡◌, refl, sym, ap, subst, ◌∙◌}
 use mathlib.Core.Bool.{Bool, true, false}
 use mathlib.Core.List.{List, [], ◌∷◌}
 use mathlib.Core.Option.{Option}
-use Prim.Native.Nat.{ℕ, zero, suc, ◌+◌}
+use Prim.Native.Nat.{ℕ, zero, suc, ◌+◌, ◌<◌}
+use native.Mathlib.Omega.{arith}
 use lib.ListN.{length, drop}
 use Rattle.language.specs.Tree.{Place, Ty, int, bool}
 use Rattle.language.specs.Tree as T
@@ -17,6 +18,7 @@ use Rattle.rules.specs.declared.Scope as S
 use Rattle.rules.specs.Post.{scope_of, StmtCase, States}
 use Rattle.rules.specs.Statements.{Heads, declared_type, StatesTwo, Runs, Statement, holds_blocks}
 use Rattle.rules.proofs.Heading.{further}
+use Rattle.rules.proofs.Sorts.{kind_few}
 
 abbrev pub Truth : Bool → Type 0
 Truth true = Unit {0}
@@ -85,6 +87,10 @@ module _ (text : List ℕ) (gs : List Global) (locals : List ℕ) (l count : ℕ
 
   pub of_kind : (i : ℕ) → k ≡ i → Arm i → holds_blocks k ≡ false → Statement text gs locals l count result (drop p tree) q core r locals' core'
   of_kind i e x b = record { by = arm b (subst Arm (sym e) x) }
+
+  -- what is no statement says nothing
+  pub of_none : 10 < k → Statement text gs locals l count result (drop p tree) q core r locals' core'
+  of_none h = record { by = λ st more ew nm. absurd (omega (arith, h, is_kind ew, kind_few st more)) }
 
   pub of_blocks : holds_blocks k ≡ true → holds_blocks k ≡ false → Statement text gs locals l count result (drop p tree) q core r locals' core'
   of_blocks t f = absurd (subst Truth (sym t ∙ f) tt)

@@ -12,6 +12,7 @@ use Rattle.grammar.specs.Flat as G
 use Rattle.rules.specs.Named.{NamedExpr}
 use Rattle.rules.specs.Scan.{Operand, no_operand, Scanned, scan}
 use Rattle.std.specs.Prelude.{Result, Ok, Err}
+use Rattle.grammar.specs.declared.tree.ValueType.{ValueType}
 use Rattle.rules.specs.declared.operands.Operand as O
 use Rattle.rules.specs.declared.Broken.{Broken}
 use Rattle.rules.specs.Post.{operands_in, Tops, nothing_scanned, Wrote, ScanCase, Scans, TypedAs, Elaborates}
@@ -53,7 +54,7 @@ module _ (text : List ℕ) (gs : List Global) (ls : List Local) where
   unfolding scan
   whole e n more q l h = scan_expr text gs ls e n 0 more nothing_scanned h (q ∙ omega arith) (omega (arith, q, l))
 
-  done : {n : ℕ} {ws : List ℕ} {q : ℕ} {core : List ℕ} {h : ℕ} {o : O.Operand} {ts ss core' : List ℕ} (e : T.Expr) (more : List ℕ) → Wrote text gs ls n ws q core h ts ss core' → Tops ts ss h 0 o → n < 2 ^ 32 →
+  done : {n : ℕ} {ws : List ℕ} {q : ℕ} {core : List ℕ} {h : ℕ} {o : O.Operand ValueType} {ts ss core' : List ℕ} (e : T.Expr) (more : List ℕ) → Wrote text gs ls n ws q core h ts ss core' → Tops ts ss h 0 o → n < 2 ^ 32 →
       ws ≡ G.expr_words e more → n ≡ G.size e → NamedExpr text e → TypedAs (expr gs ls e) q core o.ty core'
   unfolding after
   done {n} {ws} {q} {core} {h} {o} {ts} {ss} {core'} e more w t l ew en nm = go (held (expr gs ls e) (λ u. after u nothing_scanned) _ (sym (whole e n more en l nm) ∙ (ap (λ (us : List ℕ). scan text gs ls n us nothing_scanned) (sym ew) ∙ w.is)))
@@ -66,7 +67,7 @@ module _ (text : List ℕ) (gs : List Global) (ls : List Local) where
         there = w.there ∙ ap (λ (s : Scanned). sets core q s.words) (sym k.gives);
       }
 
-  pub given_type : {n : ℕ} {ws : List ℕ} {q : ℕ} {core : List ℕ} {r : Result ℕ Broken} {h : ℕ} {o : O.Operand} {ts ss core' : List ℕ} → Scans text gs ls n ws q core r ts ss core' → r ≡ Ok h → Tops ts ss h 0 o → n < 2 ^ 32 →
+  pub given_type : {n : ℕ} {ws : List ℕ} {q : ℕ} {core : List ℕ} {r : Result ℕ Broken} {h : ℕ} {o : O.Operand ValueType} {ts ss core' : List ℕ} → Scans text gs ls n ws q core r ts ss core' → r ≡ Ok h → Tops ts ss h 0 o → n < 2 ^ 32 →
       Elaborates text gs ls n ws q core (Ok o.ty) core'
   given_type {n} {ws} {q} {core} {ts = ts} {ss} {core'} w d t l = record { by = λ e more ew en nm. done e more (subst (λ (o : Result ℕ Broken). ScanCase text gs ls n ws q core o ts ss core') d w.by) t l ew en nm }
 

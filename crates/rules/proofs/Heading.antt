@@ -31,6 +31,10 @@ heads tree p e₀ e₁ e₂ e₃ e₄ e₅ e₆ e₇ = record {
   is_rest = e₇ ∙ sym (get_or-drop p tree 7 0);
 }
 
+-- the header, by another word for its kind
+pub kind_by : {ws : List ℕ} {i k at size n m s t rest : ℕ} → i ≡ k → Heads ws k at size n m s t rest → Heads ws i at size n m s t rest
+kind_by e h = rw e h
+
 -- what follows an expression
 pub past_expr : (e : T.Expr) (n : ℕ) (more : List ℕ) → n ≡ 4 * G.size e → drop n (G.expr_words e more) ≡ more
 past_expr e n more h = ap (drop n) (expr_linear e more) ∙ drop_at (G.expr_words e []) more n (omega (arith, expr_words_lem e [], h))

@@ -20,6 +20,7 @@ use Rattle.rules.specs.declared.names.Local as L
 use Rattle.rules.specs.declared.program.Global as P
 use Rattle.rules.specs.declared.program.Program.{Program}
 use Rattle.rules.specs.declared.operands.Operand as O
+use Rattle.grammar.specs.declared.tree.ValueType.{ValueType}
 use Rattle.rules.specs.Values.{meant, FindsLocal, globals_of, FindsGlobal, FindsFunction}
 use Rattle.rules.specs.Post.{operands_in, Tops}
 
@@ -145,7 +146,7 @@ module _ (ts ss tree : List ℕ) (h header v n here begins : ℕ) (t : Ty) where
 pub no_arguments : (os : List Operand) (n here : ℕ) → n ≡ 0 → here ≡ first_start n here os
 no_arguments os n here e = rw (eq-eqb n 0 e) refl
 
-pub first_argument : {ts ss : List ℕ} {h : ℕ} {o : O.Operand} (n here : ℕ) → (n ≡ 0 → ⊥) → Tops ts ss h (n - 1) o → o.start ≡ first_start n here (operands_in ts ss h)
+pub first_argument : {ts ss : List ℕ} {h : ℕ} {o : O.Operand ValueType} (n here : ℕ) → (n ≡ 0 → ⊥) → Tops ts ss h (n - 1) o → o.start ≡ first_start n here (operands_in ts ss h)
 first_argument n here e t = rw (ne_eqb n 0 e, t.is) refl
 
 -- The function that a name stands for

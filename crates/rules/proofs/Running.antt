@@ -23,7 +23,6 @@ use Rattle.rules.specs.Named.{NamedArgs}
 use Rattle.std.specs.Prelude.{Some, None, Result, Ok, Err}
 use Rattle.rules.specs.declared.program.Program.{Program}
 use Rattle.rules.specs.declared.program.Global as P
-use Rattle.flat.specs.Numbers.{kind_number}
 use Rattle.rules.specs.declared.nodes.Made.{Made}
 use Rattle.rules.specs.declared.Broken.{Broken}
 use Rattle.rules.specs.declared.Scope as S
@@ -201,16 +200,16 @@ module _ (text : List ℕ) (gs : List Global) (locals : List ℕ) (l count : ℕ
         the_words : (xs : T.Args) (a : ArgsHeld xs) → length a.value ≡ many → wrote.words ++ (3 ∷ 0 ∷ nd.a ∷ many ∷ []) ≡ items_words (codes (args_of a.value) nd.a 0 0 []) []
         the_words xs a c = ap (λ (w : List ℕ). w ++ (3 ∷ 0 ∷ nd.a ∷ many ∷ [])) (sym (ap (λ (y : Scanned). y.words) a.gives) ∙ afters_words a.value nothing_scanned) ∙ sym (args_words_lem a.value nd.a 0 many (omega (arith, c)))
 
-        there_at : (xs : T.Args) (a : ArgsHeld xs) (c : length a.value ≡ many) {core₂ core₃ : List ℕ} → core₂ ≡ sets core₁ (q + 8 + 4 * (n - 1)) (kind_number nd.kind ∷ 0 ∷ nd.a ∷ nd.b ∷ []) → core₃ ≡ sets core₂ q (7 ∷ 0 ∷ 0 ∷ n ∷ 0 ∷ 0 ∷ 0 ∷ rest ∷ []) →
+        there_at : (xs : T.Args) (a : ArgsHeld xs) (c : length a.value ≡ many) {core₂ core₃ : List ℕ} → core₂ ≡ sets core₁ (q + 8 + 4 * (n - 1)) (nd.kind ∷ 0 ∷ nd.a ∷ nd.b ∷ []) → core₃ ≡ sets core₂ q (7 ∷ 0 ∷ 0 ∷ n ∷ 0 ∷ 0 ∷ 0 ∷ rest ∷ []) →
             core₃ ≡ sets core q (7 ∷ 0 ∷ 0 ∷ n ∷ 0 ∷ 0 ∷ 0 ∷ rest ∷ items_words (codes (args_of a.value) nd.a 0 0 []) [])
         there_at xs a c e₂ e₃ =
             two_rows core q (4 * (n - 1)) (7 ∷ 0 ∷ 0 ∷ n ∷ 0 ∷ 0 ∷ 0 ∷ rest ∷ []) wrote.words (3 ∷ 0 ∷ nd.a ∷ many ∷ []) wrote.there
-            (e₂ ∙ at_kind (kind_number nd.kind) nd.b (the_call xs a c).1 (the_call xs a c).2) e₃ wrote.size ∙ ap (λ (w : List ℕ). sets core q (7 ∷ 0 ∷ 0 ∷ n ∷ 0 ∷ 0 ∷ 0 ∷ rest ∷ w)) (the_words xs a c)
+            (e₂ ∙ at_kind nd.kind nd.b (the_call xs a c).1 (the_call xs a c).2) e₃ wrote.size ∙ ap (λ (w : List ℕ). sets core q (7 ∷ 0 ∷ 0 ∷ n ∷ 0 ∷ 0 ∷ 0 ∷ rest ∷ w)) (the_words xs a c)
           where
             at_kind : (k w : ℕ) → k ≡ 3 → w ≡ many → sets core₁ (q + 8 + 4 * (n - 1)) (k ∷ 0 ∷ nd.a ∷ w ∷ []) ≡ sets core₁ (q + 8 + 4 * (n - 1)) (3 ∷ 0 ∷ nd.a ∷ many ∷ [])
             at_kind k w e f = rw (e, f) refl
 
-        pub run_next : {core₂ core₃ : List ℕ} → core₂ ≡ sets core₁ (q + 8 + 4 * (n - 1)) (kind_number nd.kind ∷ 0 ∷ nd.a ∷ nd.b ∷ []) → core₃ ≡ sets core₂ q (7 ∷ 0 ∷ 0 ∷ n ∷ 0 ∷ 0 ∷ 0 ∷ rest ∷ []) → Said (Ok (scope_at l count)) core₃
+        pub run_next : {core₂ core₃ : List ℕ} → core₂ ≡ sets core₁ (q + 8 + 4 * (n - 1)) (nd.kind ∷ 0 ∷ nd.a ∷ nd.b ∷ []) → core₃ ≡ sets core₂ q (7 ∷ 0 ∷ 0 ∷ n ∷ 0 ∷ 0 ∷ 0 ∷ rest ∷ []) → Said (Ok (scope_at l count)) core₃
         run_next e₂ e₃ = decided (λ xs a c en er. fine_at xs a c (there_at xs a c e₂ e₃) (items xs a en) (omega (arith, er, en, items xs a en)))
 
 -- the last word of the call's item

@@ -8,9 +8,8 @@ use lib.Seq.{drop-cons, length-sets, sets}
 use Rattle.language.specs.Rules.{keeps, breaks, ◌>>=◌, found, Global, Local}
 use Rattle.rules.specs.Scan.{Scanned, node_of, charged, added, scan}
 use Rattle.std.specs.Prelude.{Some, None, Ok, Err}
-use Rattle.flat.specs.Numbers.{kind_number}
 use Rattle.rules.specs.declared.nodes.Made.{Made}
-use Rattle.rules.specs.Values.{made, broken_at}
+use Rattle.rules.specs.Values.{meant, held, made, broken_at}
 use Rattle.rules.specs.Post.{operands_in, Pushes, Charges, Reads, nothing_scanned, Scans}
 use Rattle.rules.proofs.Stacks.{sets_append}
 
@@ -96,21 +95,21 @@ module _ {text : List ℕ} {gs : List Global} {ls : List Local} {n : ℕ} {tree 
       rule_broken e = record { by = here ∙ rw (← e) refl }
 
       module _ (w : Made) {ts' ss' core₁ core₂ : List ℕ} {h' : ℕ} (e : made (Some w) ≡ node_of text gs ls k place a b to (operands_in ts ss h))
-          (x : Pushes ts ss h w.takes w.gives h' ts' ss') (y : core₁ ≡ sets core (q + 4 * i) (kind_number w.kind ∷ 0 ∷ w.a ∷ w.b ∷ [])) (z : Charges core₁ q (4 * i + 4) w.gives.start w.begins core₂) (kt : length ts' ≡ length ts) (ks : length ss' ≡ length ss) where
-        item_there : core₁ ≡ sets core₀ q (c.words ++ (kind_number w.kind ∷ 0 ∷ w.a ∷ w.b ∷ []))
-        item_there = y ∙ (ap (λ (us : List ℕ). sets us (q + 4 * i) (kind_number w.kind ∷ 0 ∷ w.a ∷ w.b ∷ [])) c.there ∙ (ap (λ (j : ℕ). sets (sets core₀ q c.words) (q + j) (kind_number w.kind ∷ 0 ∷ w.a ∷ w.b ∷ [])) (sym c.size) ∙ sets_append core₀ q c.words (kind_number w.kind ∷ 0 ∷ w.a ∷ w.b ∷ [])))
+          (x : Pushes ts ss h w.takes (held meant w.gives) h' ts' ss') (y : core₁ ≡ sets core (q + 4 * i) (w.kind ∷ 0 ∷ w.a ∷ w.b ∷ [])) (z : Charges core₁ q (4 * i + 4) w.gives.start w.begins core₂) (kt : length ts' ≡ length ts) (ks : length ss' ≡ length ss) where
+        item_there : core₁ ≡ sets core₀ q (c.words ++ (w.kind ∷ 0 ∷ w.a ∷ w.b ∷ []))
+        item_there = y ∙ (ap (λ (us : List ℕ). sets us (q + 4 * i) (w.kind ∷ 0 ∷ w.a ∷ w.b ∷ [])) c.there ∙ (ap (λ (j : ℕ). sets (sets core₀ q c.words) (q + j) (w.kind ∷ 0 ∷ w.a ∷ w.b ∷ [])) (sym c.size) ∙ sets_append core₀ q c.words (w.kind ∷ 0 ∷ w.a ∷ w.b ∷ [])))
 
-        item_size : length (c.words ++ (kind_number w.kind ∷ 0 ∷ w.a ∷ w.b ∷ [])) ≡ 4 * i + 4
-        item_size = length-append c.words (kind_number w.kind ∷ 0 ∷ w.a ∷ w.b ∷ []) ∙ ap (λ (j : ℕ). j + 4) c.size
+        item_size : length (c.words ++ (w.kind ∷ 0 ∷ w.a ∷ w.b ∷ [])) ≡ 4 * i + 4
+        item_size = length-append c.words (w.kind ∷ 0 ∷ w.a ∷ w.b ∷ []) ∙ ap (λ (j : ℕ). j + 4) c.size
 
         pub item_done : Scanning text gs ls n tree p q ts₀ ss₀ core₀ (i + 1) h' ts' ss' core₂
         unfolding found ◌>>=◌ added charged
         item_done =
             record {
-              words = charged w.begins w.gives.start (c.words ++ (kind_number w.kind ∷ 0 ∷ w.a ∷ w.b ∷ []));
+              words = charged w.begins w.gives.start (c.words ++ (w.kind ∷ 0 ∷ w.a ∷ w.b ∷ []));
               rest = here ∙ rw (← e, x.is) refl;
-              there = z.is core₀ (c.words ++ (kind_number w.kind ∷ 0 ∷ w.a ∷ w.b ∷ [])) item_there item_size;
-              size = length-set (c.words ++ (kind_number w.kind ∷ 0 ∷ w.a ∷ w.b ∷ [])) _ _ ∙ (item_size ∙ omega arith);
+              there = z.is core₀ (c.words ++ (w.kind ∷ 0 ∷ w.a ∷ w.b ∷ [])) item_there item_size;
+              size = length-set (c.words ++ (w.kind ∷ 0 ∷ w.a ∷ w.b ∷ [])) _ _ ∙ (item_size ∙ omega arith);
               few = omega (arith, x.most, c.few);
               below = omega (arith, l);
               types = kt ∙ c.types;

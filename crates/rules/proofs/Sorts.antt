@@ -3,31 +3,20 @@ use mathlib.Core.Path.{◌≡◌, refl, sym, ap, ◌∙◌}
 use mathlib.Core.Bool.{true, false}
 use mathlib.Core.List.{List}
 use mathlib.Core.Logic.{◌⊎◌, inl, inr}
-use Prim.Native.Nat.{ℕ, zero, suc, ◌≤◌}
+use Prim.Native.Nat.{ℕ, zero, suc, ◌≤◌, ◌<◌}
 use native.Mathlib.Omega.{arith}
-use denote.Enum.Declared.{tag_of}
-use Rattle.language.specs.Tree.{Ty, int}
+use borrow.Author.Tests.{ne_eqb}
+use Rattle.language.specs.Tree.{Ty, int, bool}
 use Rattle.language.specs.Tree as T
 use Rattle.grammar.specs.Flat as G
-use Rattle.grammar.specs.Numbers.{number_of_statement}
+use Rattle.std.specs.Prelude.{Result, Ok, Err}
+use Rattle.std.specs.Result.{result_ok}
+use Rattle.flat.specs.declared.UnknownNumber.{UnknownNumber}
+use Rattle.grammar.specs.Numbers.{number_of_statement, ReadsStatement}
 use Rattle.grammar.specs.declared.tree.Statement.{Statement}
 use Rattle.grammar.specs.declared.tree.Statement.TheVariants as V
-use Rattle.flat.specs.Numbers.{statement_number}
-use Rattle.flat.specs.contracts.statement.Kind.{the_type}
-use Rattle.flat.specs.declared.statement.Kind as K
-use Rattle.flat.specs.declared.statement.Kind.TheVariants as KV
 use Rattle.rules.specs.Tables.{word}
-use Rattle.rules.specs.Statements.{declared_type, holds_blocks}
-
-pub statement_is : (k : K.Kind) → tag_of the_type k ≡ statement_number k
-statement_is KV.Put = refl
-statement_is KV.Store = refl
-statement_is KV.Choose = refl
-statement_is KV.While = refl
-statement_is KV.Leave = refl
-statement_is KV.Give = refl
-statement_is KV.Emit = refl
-statement_is KV.Run = refl
+use Rattle.rules.specs.Statements.{KindCase, declared_type, holds_blocks}
 
 -- the kind that a number stands for
 abbrev pub kind_of : ℕ → Statement
@@ -58,6 +47,11 @@ back V.DeclareBool = refl
 
 pub apart : (k : Statement) (i : ℕ) → (k ≡ kind_of i → ⊥) → number_of_statement k ≡ i → ⊥
 apart k i h e = h (sym (back k) ∙ ap kind_of e)
+
+-- a number's kind, if it is some kind's
+pub kind_read : (n : ℕ) (r : Result Statement UnknownNumber) → ReadsStatement n r → KindCase n (result_ok r)
+kind_read n (Ok k) h = h
+kind_read n (Err e) h = h.1
 
 -- whether a statement of this kind has blocks
 
@@ -108,6 +102,14 @@ declares_int V.Run h = refl
 declares_int V.When h = refl
 declares_int V.DeclareInt h = refl
 declares_int V.DeclareBool h = absurd (h refl)
+
+pub declares_bool : {n : ℕ} → 10 ≡ n → bool ≡ declared_type n
+unfolding declared_type
+declares_bool e = rw (← e) refl
+
+pub declares_nothing : {n : ℕ} → 10 < n → int ≡ declared_type n
+unfolding declared_type
+declares_nothing {n} h = rw (ne_eqb n 10 (λ e. omega (arith, e, h))) refl
 
 -- no statement has another kind
 pub kind_few : (s : T.Stmt) (more : List ℕ) → word (G.stmt_words s more) 0 ≤ 10

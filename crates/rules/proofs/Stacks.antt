@@ -12,7 +12,6 @@ use Rattle.rules.specs.Tables.{word, type_of}
 use Rattle.rules.specs.Scan.{Operand, no_operand, charged}
 use Rattle.grammar.specs.declared.tree.ValueType.{ValueType}
 use Rattle.grammar.specs.declared.tree.ValueType.TheVariants as V
-use Rattle.rules.specs.declared.operands.Operand as O
 use Rattle.rules.specs.Values.{meant}
 use Rattle.rules.specs.Post.{operands_in, Tops, Pushes, Charges}
 
@@ -47,7 +46,7 @@ unfolding operands_in
 same_below ts ss us vs zero e f = refl
 same_below ts ss us vs (suc h) e f = rw (e h (omega arith), f h (omega arith), same_below ts ss us vs h (λ i l. e i (omega (arith, l))) (λ i l. f i (omega (arith, l)))) refl
 
-pub pushed : {ts ss : List ℕ} (h n at ty : ℕ) (o : O.Operand) → type_of ty ≡ meant o.ty → at ≡ h - n → h < length ts → h < length ss → Pushes ts ss h n o (at + 1) (set ts at ty) (set ss at o.start)
+pub pushed : {ts ss : List ℕ} (h n at ty : ℕ) (o : Operand) → type_of ty ≡ o.type → at ≡ h - n → h < length ts → h < length ss → Pushes ts ss h n o (at + 1) (set ts at ty) (set ss at o.start)
 unfolding operands_in
 pushed {ts} {ss} h n at ty o t e k l =
     record {

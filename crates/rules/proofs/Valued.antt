@@ -18,10 +18,6 @@ use Rattle.language.specs.Tree.{Ty, int, bool}
 use Rattle.language.specs.Rules.{same_ty}
 use Rattle.rules.specs.Tables.{word, type_of, result_of, local_at}
 use Rattle.rules.specs.Values.{meant, known}
-use Rattle.flat.specs.Numbers.{kind_number}
-use Rattle.flat.specs.declared.item.Kind as I
-use Rattle.flat.specs.declared.item.Kind.TheVariants as IV
-use Rattle.flat.specs.contracts.item.Kind.{the_type as item_type}
 use Rattle.grammar.specs.contracts.tree.ValueType.{the_type}
 use Rattle.grammar.specs.declared.tree.ValueType.{ValueType}
 use Rattle.grammar.specs.declared.tree.ValueType.TheVariants as V
@@ -70,6 +66,13 @@ unlike x y h e = sym (same_is x y) ∙ denied (sameb the_type x y) (sym h ∙ e)
 pub alike : {r : Bool} (x y : ValueType) → r ≡ not (sameb the_type x y) → r ≡ false → same_ty (meant y) (meant x) ≡ true
 alike x y h e = sym (same_is x y) ∙ granted (sameb the_type x y) (sym h ∙ e)
 
+-- the same of a type that is named
+pub unlike_named : {t : Ty} {r : Bool} (x y : ValueType) → meant x ≡ t → r ≡ not (sameb the_type x y) → r ≡ true → same_ty (meant y) t ≡ false
+unlike_named x y n h e = ap (same_ty (meant y)) (sym n) ∙ unlike x y h e
+
+pub alike_named : {t : Ty} {r : Bool} (x y : ValueType) → meant x ≡ t → r ≡ not (sameb the_type x y) → r ≡ false → same_ty (meant y) t ≡ true
+alike_named x y n h e = ap (same_ty (meant y)) (sym n) ∙ alike x y h e
+
 -- a type that is read in a word
 pub through : {t : Ty} {n m : ℕ} → t ≡ type_of n → n ≡ m → t ≡ type_of m
 through h e = h ∙ ap type_of e
@@ -97,15 +100,3 @@ words_alike x y e f g h k = ap not k ∙ (twice (sameb the_type x y) ∙ (same_i
 pub passed : {A : Type 0} (r : Result A Broken) {b : Broken} → IsErrAnd r (λ y. y ≡ b) → r ≡ Err b
 passed (Ok a) h = absurd h
 passed (Err y) h = ap (λ (z : Broken). Err z) h
-
--- the number of an item's kind
-pub kind_is : (k : I.Kind) → tag_of item_type k ≡ kind_number k
-kind_is IV.Number = refl
-kind_is IV.Local = refl
-kind_is IV.Element = refl
-kind_is IV.Call = refl
-kind_is IV.Unary = refl
-kind_is IV.Strict = refl
-kind_is IV.And = refl
-kind_is IV.Or = refl
-kind_is IV.Join = refl

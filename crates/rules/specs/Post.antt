@@ -26,12 +26,12 @@ operands_in types starts zero = []
 operands_in types starts (suc h) = record { type = type_of (word types h); start = word starts h } ∷ operands_in types starts h
 
 -- the operand below the j uppermost
-pub record Tops (types starts : List ℕ) (h j : ℕ) (o : O.Operand) : Type 0 where
-  pub is : get_or (operands_in types starts h) j no_operand ≡ held o
+pub record Tops (types starts : List ℕ) (h j : ℕ) (o : O.Operand ValueType) : Type 0 where
+  pub is : get_or (operands_in types starts h) j no_operand ≡ held meant o
 
 -- an operand in the place of the n uppermost
-pub record Pushes (types starts : List ℕ) (h n : ℕ) (o : O.Operand) (h' : ℕ) (types' starts' : List ℕ) : Type 0 where
-  pub is : operands_in types' starts' h' ≡ held o ∷ drop n (operands_in types starts h)
+pub record Pushes (types starts : List ℕ) (h n : ℕ) (o : Operand) (h' : ℕ) (types' starts' : List ℕ) : Type 0 where
+  pub is : operands_in types' starts' h' ≡ o ∷ drop n (operands_in types starts h)
   pub most : h' ≤ h + 1
 
 -- n nodes more begin at the item at start, of those that were written from q on

@@ -19,6 +19,7 @@ use Rattle.rules.specs.Post.{Room, scope_of, StmtCase}
 use Rattle.rules.specs.Bounds.{most_places}
 use Rattle.std.specs.Prelude as P
 use Rattle.grammar.specs.Numbers.{number_of_statement}
+use Rattle.grammar.specs.declared.tree.Statement as K
 use Rattle.rules.specs.declared.head.Head as H
 use Rattle.rules.specs.declared.Scope as S
 use Rattle.rules.specs.declared.Broken.{Broken}
@@ -34,12 +35,18 @@ pub record Heads (ws : List ℕ) (kind at size items more_items statements more_
   pub is_more_statements : more_statements ≡ word ws 6
   pub is_rest : rest ≡ word ws 7
 
+-- the kind whose number this is; or it is no kind's
+
+abbrev pub KindCase : ℕ → P.Option K.Statement → Type 0
+KindCase n P.None = 10 < n
+KindCase n (P.Some s) = number_of_statement s ≡ n
+
 -- a header that was read; or the kind that stands there is no statement's
 
-abbrev pub Headed : List ℕ → H.Head → Type 0
+abbrev pub Headed : List ℕ → H.Head K.Statement → Type 0
 Headed ws h = Heads ws (number_of_statement h.kind) h.at h.size h.first h.second h.body h.other h.rest
 
-abbrev pub HeadCase : List ℕ → P.Option H.Head → Type 0
+abbrev pub HeadCase : List ℕ → P.Option (H.Head K.Statement) → Type 0
 HeadCase ws P.None = 10 < word ws 0
 HeadCase ws (P.Some h) = Headed ws h
 

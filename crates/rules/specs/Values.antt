@@ -1,13 +1,13 @@
 -- What the code's values stand for in document 01: types, names, visible locals, arrays and functions, operands, items, places of broken rules.
-use Rattle.std.specs.Prelude.{◌≡◌, List, ◌∷◌, ℕ, ◌+◌, ◌*◌, ◌<◌, ◌^◌, Bool, Option, Some, None}
+use Rattle.std.specs.Prelude.{◌≡◌, refl, List, ◌∷◌, ℕ, ◌+◌, ◌*◌, ◌<◌, ◌^◌, Bool, Option, Some, None}
 use Rattle.std.proofs.Math.Option as M
 use Rattle.language.specs.Tree.{Place, Name, Ty, int, bool}
 use Rattle.language.specs.Tokens.{same}
 use Rattle.language.specs.Rules as R
 use Rattle.language.specs.Rules.{local_of, global_of}
-use Rattle.flat.specs.Numbers.{kind_number}
-use Rattle.rules.specs.Tables.{word, part, locals_in, global_from, globals_in, signature}
+use Rattle.rules.specs.Tables.{word, part, type_of, locals_in, global_from, globals_in, signature}
 use Rattle.rules.specs.Scan.{Operand, Node, function_named}
+use Rattle.grammar.specs.Numbers.{number_of_type}
 use Rattle.grammar.specs.declared.tree.ValueType.{ValueType}
 use Rattle.grammar.specs.declared.tree.ValueType.TheVariants as V
 use Rattle.rules.specs.declared.names.Name as C
@@ -22,6 +22,12 @@ use Rattle.rules.specs.declared.Broken.{Broken}
 abbrev pub meant : ValueType → Ty
 meant V.Int = int
 meant V.Bool = bool
+
+-- a type's number is read as that type
+pub number_means : (t : ValueType) → type_of (number_of_type t) ≡ meant t
+unfolding type_of
+number_means V.Int = refl
+number_means V.Bool = refl
 
 -- a function's result type, if it has one
 abbrev pub result_in : Option ValueType → M.Option Ty
@@ -78,11 +84,12 @@ pub record FindsFunction (p : Program) (place length : ℕ) (r : Option G.Global
 
 -- Operands and items
 
-abbrev pub held : O.Operand → Operand
-held o = record { type = meant o.ty; start = o.start }
+-- an operand, by what its type's name stands for
+abbrev pub held : {T : Type 0} → (T → Ty) → O.Operand T → Operand
+held named o = record { type = named o.ty; start = o.start }
 
 abbrev pub node_in : Made → Node
-node_in m = record { takes = m.takes; type = meant m.gives.ty; start = m.gives.start; begins = m.begins; kind = kind_number m.kind; a = m.a; b = m.b }
+node_in m = record { takes = m.takes; type = meant m.gives.ty; start = m.gives.start; begins = m.begins; kind = m.kind; a = m.a; b = m.b }
 
 -- what is made of an item, if it keeps the rules
 abbrev pub made : Option Made → M.Option Node

@@ -29,8 +29,8 @@ fn condition(
     types: &mut [u32],
     starts: &mut [u32],
     core: &mut [u32],
-    spot: Spot,
-    head: Head,
+    spot: Spot<Option<ValueType>>,
+    head: Head<Statement>,
 ) -> Result<(), Broken>
     requires { Room program.now.tree.now spot.scope.visible types.old starts.old core.old (spot.tree + 8) (spot.core + 8) }
     ensures { Conditions program.now.text.now (globals_of program.now) (locals_in program.now.text.now locals.now spot.scope.visible)
@@ -44,7 +44,7 @@ fn condition(
 }
 
 // The header of a statement with blocks: of `if`, its second word is how many words the first block has.
-fn nest(core: &mut [u32], q: usize, head: Head)
+fn nest(core: &mut [u32], q: usize, head: Head<Statement>)
     requires { q + 8 ≤ length core.old }
     ensures { core.new ≡ sets core.old q (nest_words (number_of_statement head.kind) head.size head.first head.body head.other head.rest) }
 {
@@ -62,8 +62,8 @@ fn branches(
     types: &mut [u32],
     starts: &mut [u32],
     core: &mut [u32],
-    spot: Spot,
-    head: Head,
+    spot: Spot<Option<ValueType>>,
+    head: Head<Statement>,
 ) -> Result<u32, Broken>
     requires { StmtRoom program.now.tree.now locals.old spot.scope.visible spot.scope.count types.old starts.old core.old spot.tree spot.core head.rest × (4 * head.first + head.size ≤ head.rest) }
     ensures { Branches program.now.text.now (globals_of program.now) locals.old spot.scope.visible spot.scope.count (result_in spot.result) program.now.tree.now spot.tree spot.core
@@ -92,8 +92,8 @@ fn stmt(
     types: &mut [u32],
     starts: &mut [u32],
     core: &mut [u32],
-    spot: Spot,
-    head: Head,
+    spot: Spot<Option<ValueType>>,
+    head: Head<Statement>,
 ) -> Result<Scope, Broken>
     requires { StmtRoom program.now.tree.now locals.old spot.scope.visible spot.scope.count types.old starts.old core.old spot.tree spot.core head.rest × Headed (drop spot.tree program.now.tree.now) head }
     ensures statement { StatesOne program.now.text.now (globals_of program.now) locals.old spot.scope.visible spot.scope.count (result_in spot.result)
@@ -123,7 +123,7 @@ pub fn block(
     types: &mut [u32],
     starts: &mut [u32],
     core: &mut [u32],
-    spot: Spot,
+    spot: Spot<Option<ValueType>>,
     n: u32,
 ) -> Result<u32, Broken>
     requires { BlockRoom program.now.tree.now locals.old spot.scope.visible spot.scope.count types.old starts.old core.old spot.tree spot.core }

@@ -2,7 +2,7 @@
 ghost use Rattle.std.specs.Prelude.{◌≡◌, ◌+◌, ◌≤◌};
 ghost use Rattle.rules.specs.Bounds.{most_places};
 ghost use Rattle.rules.specs.Tables.{signature};
-ghost use Rattle.rules.specs.Values.{meant, made, globals_of};
+ghost use Rattle.rules.specs.Values.{made, globals_of};
 ghost use Rattle.rules.specs.Scan.{first_start, call_node, called_node};
 ghost use Rattle.rules.specs.Post.{operands_in};
 ghost use Rattle.rules.specs.Statements.{dropped_node};
@@ -12,7 +12,7 @@ use crate::names::Name;
 use crate::nodes::{Made, TreeItem};
 use crate::operands::{Operand, top};
 use crate::program::{Global, Program};
-use crate::types::{result_type, same_types};
+use crate::types::{Typed, result_type, same_types};
 use flat::item::Kind;
 use grammar::tree::ValueType;
 use word::lists::word;
@@ -36,7 +36,7 @@ pub fn first_start(types: &[u32], starts: &[u32], h: usize, n: u32, here: u32) -
 }
 
 // A call of a function, with the n uppermost operands.
-pub fn arguments(
+pub fn arguments<T: Typed>(
     tree: &[u32],
     types: &[u32],
     starts: &[u32],
@@ -45,10 +45,10 @@ pub fn arguments(
     n: u32,
     here: u32,
     begins: u32,
-    ty: ValueType,
+    ty: T,
 ) -> Option<Made>
     requires { h ≤ most_places }
-    ensures { made result ≡ call_node (signature tree.now f.header f.value) n here begins (meant ty) (operands_in types.now starts.now h) }
+    ensures { made result ≡ call_node (signature tree.now f.header f.value) n here begins (T.type_named ty) (operands_in types.now starts.now h) }
 {
     if h < n as usize {
         return None;
@@ -64,9 +64,12 @@ pub fn arguments(
     let start = first_start(types, starts, h, n, here);
     Some(Made {
         takes: n,
-        gives: Operand { ty, start },
+        gives: Operand {
+            ty: ty.value_type(),
+            start,
+        },
         begins,
-        kind: Kind::Call,
+        kind: Kind::Call as u32,
         a: f.value,
         b: n,
     })
@@ -93,12 +96,12 @@ pub fn call(
 }
 
 // A call as a statement, with n arguments: its result, if the function has one, is dropped.
-pub fn dropped(
+pub fn dropped<K: Copy>(
     program: &Program,
     types: &[u32],
     starts: &[u32],
     h: usize,
-    head: Head,
+    head: Head<K>,
     n: u32,
 ) -> Option<Made>
     requires { h ≤ most_places }

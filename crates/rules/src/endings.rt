@@ -9,7 +9,7 @@ use word::lists::word;
 
 // Whether the statement at p is a return.
 #[cycle(ends_in_return_returns)]
-fn returns(tree: &[u32], p: usize, head: Head) -> bool
+fn returns(tree: &[u32], p: usize, head: Head<Statement>) -> bool
     requires { (length tree.now ≤ most_words) × (p + 8 + head.rest ≤ length tree.now) × Headed (drop p tree.now) head }
     ensures { Returns (drop p tree.now) result }
 {

@@ -12,13 +12,13 @@ use crate::{Broken, Spot};
 use grammar::tree::ValueType;
 
 // The expression of n items that stands here.
-pub fn expression(
+pub fn expression<R: Copy>(
     program: &Program,
     locals: &[u32],
     types: &mut [u32],
     starts: &mut [u32],
     core: &mut [u32],
-    spot: Spot,
+    spot: Spot<R>,
     n: u32,
 ) -> Result<ValueType, Broken>
     requires { Room program.now.tree.now spot.scope.visible types.old starts.old core.old spot.tree spot.core }
@@ -31,14 +31,14 @@ pub fn expression(
 }
 
 // The first expression of the statement whose header stands here.
-pub fn first_expression(
+pub fn first_expression<R: Copy, K: Copy>(
     program: &Program,
     locals: &[u32],
     types: &mut [u32],
     starts: &mut [u32],
     core: &mut [u32],
-    spot: Spot,
-    head: Head,
+    spot: Spot<R>,
+    head: Head<K>,
 ) -> Result<ValueType, Broken>
     requires { Room program.now.tree.now spot.scope.visible types.old starts.old core.old (spot.tree + 8) (spot.core + 8) }
     ensures { Elaborates program.now.text.now (globals_of program.now) (locals_in program.now.text.now locals.now spot.scope.visible)

@@ -19,8 +19,6 @@ pub mod simple; // statements with no block
 pub mod blocks; // blocks, and statements that have some
 pub mod endings; // whether a block ends in return
 
-use grammar::tree::ValueType;
-
 // Document 01's scope: how many locals of the table are visible, and how many parameters and lets there were.
 #[derive(Clone, Copy)]
 pub struct Scope {
@@ -29,13 +27,13 @@ pub struct Scope {
 }
 
 // Where an expression, a statement or a block is read: the words of the tree and of the core from which it stands on, its scope, and the result type
-// of its function.
+// of its function, which may be a number (`types::ResultType`).
 #[derive(Clone, Copy)]
-pub struct Spot {
+pub struct Spot<R> {
     pub tree: usize,
     pub core: usize,
     pub scope: Scope,
-    pub result: Option<ValueType>,
+    pub result: R,
 }
 
 // The place of a broken rule; 0 where the words are no tree's, of which the contracts say nothing else.

@@ -1,24 +1,24 @@
 // The stack of operands while an expression is read: types and starts in two rows, h of them. Two rows of words, since the caller lends two buffers.
 ghost use Rattle.std.specs.Prelude.{◌≡◌, [], ◌∷◌, ◌+◌, ◌-◌, ◌≤◌, ◌<◌, length};
 ghost use Rattle.std.proofs.lemmas.List.Edits.{sets};
-ghost use Rattle.flat.specs.Numbers.{kind_number};
+ghost use Rattle.rules.specs.Values.{held};
 ghost use Rattle.rules.specs.Post.{Tops, Pushes, Charges};
 
-use crate::types::value_type;
-use flat::item::Kind;
+use crate::types::{Typed, value_type};
+use flat::number::Numbered;
 use grammar::tree::ValueType;
 use word::arithmetic::add;
 use word::lists::word;
 
-// An operand: its type, and the word at which its items begin.
+// An operand: its type, or what names it, and the word at which its items begin.
 #[derive(Clone, Copy)]
-pub struct Operand {
-    pub ty: ValueType,
+pub struct Operand<T> {
+    pub ty: T,
     pub start: u32,
 }
 
 // The operand below the j uppermost; an int that begins at 0 where there is none.
-pub fn top(types: &[u32], starts: &[u32], h: usize, j: usize) -> Operand
+pub fn top(types: &[u32], starts: &[u32], h: usize, j: usize) -> Operand<ValueType>
     ensures { Tops types.now starts.now h j result }
 {
     if h <= j {
@@ -33,22 +33,28 @@ pub fn top(types: &[u32], starts: &[u32], h: usize, j: usize) -> Operand
 }
 
 // An operand in the place of the n uppermost; how many there are then.
-pub fn push(types: &mut [u32], starts: &mut [u32], h: usize, n: u32, operand: Operand) -> usize
+pub fn push<T: Typed>(
+    types: &mut [u32],
+    starts: &mut [u32],
+    h: usize,
+    n: u32,
+    operand: Operand<T>,
+) -> usize
     requires { (h < length types.old) × (h < length starts.old) }
-    ensures { Pushes types.old starts.old h n operand result types.new starts.new }
+    ensures { Pushes types.old starts.old h n (held T.type_named operand) result types.new starts.new }
 {
     let at = h.saturating_sub(n as usize);
-    types[at] = operand.ty as u32;
+    types[at] = operand.ty.number();
     starts[at] = operand.start;
     at + 1
 }
 
 // An item of the core; no node begins at it yet. Store by store, as a header (`head::CoreHead::write`).
-pub fn item(core: &mut [u32], at: usize, kind: Kind, a: u32, b: u32)
+pub fn item<K: Numbered>(core: &mut [u32], at: usize, kind: K, a: u32, b: u32)
     requires { at + 4 ≤ length core.old }
-    ensures { core.new ≡ sets core.old at (kind_number kind ∷ 0 ∷ a ∷ b ∷ []) }
+    ensures { core.new ≡ sets core.old at (K.number_of kind ∷ 0 ∷ a ∷ b ∷ []) }
 {
-    core[at] = kind as u32;
+    core[at] = kind.number();
     core[at + 1] = 0;
     core[at + 2] = a;
     core[at + 3] = b;

@@ -55,13 +55,13 @@ pub fn node(
 }
 
 // The n items of the tree from here on, and the core's; how many operands they leave.
-pub fn scan(
+pub fn scan<R: Copy>(
     program: &Program,
     locals: &[u32],
     types: &mut [u32],
     starts: &mut [u32],
     core: &mut [u32],
-    spot: Spot,
+    spot: Spot<R>,
     n: u32,
 ) -> Result<usize, Broken>
     requires { Room program.now.tree.now spot.scope.visible types.old starts.old core.old spot.tree spot.core }

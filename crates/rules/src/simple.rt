@@ -1,33 +1,36 @@
 // Statements with no block: one function for each kind.
 ghost use Rattle.std.specs.Prelude.{◌≡◌, false, drop};
-ghost use Rattle.grammar.specs.Numbers.{number_of_statement};
-ghost use Rattle.rules.specs.Values.{result_in, globals_of};
-ghost use Rattle.rules.specs.Statements.{Headed, Moves, StmtRoom, Statement as StatesOne, holds_blocks};
+ghost use Rattle.rules.specs.Values.{globals_of};
+ghost use Rattle.rules.specs.Statements.{Heads, Moves, StmtRoom, Statement as StatesOne, holds_blocks};
 
-use crate::head::Head;
+use crate::head::{Head, StatementKind};
 use crate::program::Program;
 use crate::run::run;
 use crate::single::{assign, declare, emit, give, leave};
 use crate::store::store;
+use crate::types::ResultType;
 use crate::{Broken, Scope, Spot};
 use grammar::tree::Statement;
 
 // The statement whose header stands here.
-pub fn simple(
+pub fn simple<R: ResultType, K: StatementKind>(
     program: &Program,
     locals: &mut [u32],
     types: &mut [u32],
     starts: &mut [u32],
     core: &mut [u32],
-    spot: Spot,
-    head: Head,
+    spot: Spot<R>,
+    head: Head<K>,
 ) -> Result<Scope, Broken>
-    requires { StmtRoom program.now.tree.now locals.old spot.scope.visible spot.scope.count types.old starts.old core.old spot.tree spot.core head.rest × Headed (drop spot.tree program.now.tree.now) head }
-    ensures statement { holds_blocks (number_of_statement head.kind) ≡ false → StatesOne program.now.text.now (globals_of program.now) locals.old spot.scope.visible spot.scope.count (result_in spot.result)
+    requires { StmtRoom program.now.tree.now locals.old spot.scope.visible spot.scope.count types.old starts.old core.old spot.tree spot.core head.rest × Heads (drop spot.tree program.now.tree.now) (K.number_of head.kind) head.at head.size head.first head.second head.body head.other head.rest }
+    ensures statement { holds_blocks (K.number_of head.kind) ≡ false → StatesOne program.now.text.now (globals_of program.now) locals.old spot.scope.visible spot.scope.count (R.result_named spot.result)
         (drop spot.tree program.now.tree.now) spot.core core.old result locals.new core.new }
     ensures moves { Moves spot.scope.visible spot.scope.count locals.old result locals.new }
 {
-    match head.kind {
+    let Some(kind) = head.kind.statement() else {
+        return Err(Broken(0));
+    };
+    match kind {
         Statement::Assign => assign(program, locals, types, starts, core, spot, head),
         Statement::Store => store(program, locals, types, starts, core, spot, head),
         Statement::Leave => leave(core, spot, head),

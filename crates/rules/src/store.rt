@@ -2,7 +2,7 @@
 ghost use Rattle.std.specs.Prelude.{◌+◌, ◌*◌, ◌≤◌, drop};
 ghost use Rattle.language.specs.Tree.{store as store_of};
 ghost use Rattle.rules.specs.Tables.{part, locals_in};
-ghost use Rattle.rules.specs.Values.{result_in, globals_of};
+ghost use Rattle.rules.specs.Values.{globals_of};
 ghost use Rattle.rules.specs.Post.{Elaborates};
 ghost use Rattle.rules.specs.Statements.{Moves, StmtRoom, StatesTwo};
 
@@ -12,19 +12,20 @@ use crate::names::Name;
 use crate::nodes::element;
 use crate::operands::Operand;
 use crate::program::Program;
+use crate::types::ResultType;
 use crate::{Broken, Scope, Spot};
 use flat::statement::Kind;
 use grammar::tree::ValueType;
 
 // The second expression of the statement whose header stands here, after the items of the first.
-fn second_expression(
+fn second_expression<R: Copy, K: Copy>(
     program: &Program,
     locals: &[u32],
     types: &mut [u32],
     starts: &mut [u32],
     core: &mut [u32],
-    spot: Spot,
-    head: Head,
+    spot: Spot<R>,
+    head: Head<K>,
 ) -> Result<ValueType, Broken>
     requires { StmtRoom program.now.tree.now locals.now spot.scope.visible spot.scope.count types.old starts.old core.old spot.tree spot.core head.rest }
     ensures { 4 * head.first ≤ head.rest → Elaborates program.now.text.now (globals_of program.now) (locals_in program.now.text.now locals.now spot.scope.visible)
@@ -43,17 +44,17 @@ fn second_expression(
 }
 
 // "Array elements and indices are int."
-pub fn store(
+pub fn store<R: ResultType, K: Copy>(
     program: &Program,
     locals: &[u32],
     types: &mut [u32],
     starts: &mut [u32],
     core: &mut [u32],
-    spot: Spot,
-    head: Head,
+    spot: Spot<R>,
+    head: Head<K>,
 ) -> Result<Scope, Broken>
     requires { StmtRoom program.now.tree.now locals.now spot.scope.visible spot.scope.count types.old starts.old core.old spot.tree spot.core head.rest }
-    ensures states_two { StatesTwo program.now.text.now (globals_of program.now) locals.now spot.scope.visible spot.scope.count (result_in spot.result)
+    ensures states_two { StatesTwo program.now.text.now (globals_of program.now) locals.now spot.scope.visible spot.scope.count (R.result_named spot.result)
         (λ i e. store_of head.at (part program.now.text.now head.at head.size) i e) head.first head.second head.rest (drop (spot.tree + 8) program.now.tree.now) spot.core core.old result locals.now core.new }
     ensures moves { Moves spot.scope.visible spot.scope.count locals.now result locals.now }
 {

@@ -2,4 +2,4 @@
 use Rattle.rules.proofs.head.header_of_blocks.Goals as goal
 
 pub returns : goal.returns
-returns c = c.write.ensures
+returns g c = c.write.ensures

@@ -5,4 +5,4 @@ use Rattle.rules.proofs.nodes.leaf.Goals as goal
 
 pub returns : goal.returns
 unfolding leaf
-returns c = refl
+returns g c = rw (← c.value_type.ensures, ← c.number.ensures) refl

@@ -5,4 +5,4 @@ use Rattle.rules.proofs.nodes.mark.Goals as goal
 
 pub returns : goal.returns
 unfolding mark_node
-returns c = refl
+returns g c = rw (← c.value_type.ensures, ← c.number.ensures) refl

@@ -7,16 +7,16 @@ use Rattle.grammar.specs.declared.tree.ValueType.TheVariants as K
 use Rattle.rules.proofs.single.emit.Goals as goal
 
 pub first_expression-requires : goal.first_expression-requires
-first_expression-requires c = c.requires.after
+first_expression-requires g c = c.requires.after
 
 pub returns-in_err-ty : goal.returns-in_err-ty
-returns-in_err-ty c = rw (V.passed _ c.from_residual.ensures.1) (record { states = L.emit_fault _ _ _ _ _ _ _ _ _ c.first_expression.ensures c.in_err-ty.was; moves = M.stuck _ _ _ _ })
+returns-in_err-ty g c = rw (V.passed _ c.from_residual.ensures.1) (record { states = L.emit_fault _ _ _ _ _ _ _ _ _ c.first_expression.ensures c.in_err-ty.was; moves = M.stuck _ _ _ _ })
 
 pub returns-then-ne : goal.returns-then-ne
-returns-then-ne c = record { states = L.emit_wrong _ _ _ _ _ _ _ _ _ c.first_expression.ensures c.in_ok-ty.was (V.unlike _ K.Int c.ne.ensures c.if-ne.true); moves = M.stuck _ _ _ _ }
+returns-then-ne g c = record { states = L.emit_wrong _ _ _ _ _ _ _ _ _ c.first_expression.ensures c.in_ok-ty.was (V.unlike _ K.Int c.ne.ensures c.if-ne.true); moves = M.stuck _ _ _ _ }
 
 pub header_of_one-requires : goal.header_of_one-requires
-header_of_one-requires c = omega (arith, c.requires.header, c.first_expression.auto.core)
+header_of_one-requires g c = omega (arith, c.requires.header, c.first_expression.auto.core)
 
 pub returns : goal.returns
-returns c = record { states = L.emit_next _ _ _ _ _ _ _ _ _ c.first_expression.ensures c.in_ok-ty.was (V.alike _ K.Int c.ne.ensures c.if-ne.false) c.header_of_one.ensures; moves = M.stays _ _ _ }
+returns g c = record { states = L.emit_next _ _ _ _ _ _ _ _ _ c.first_expression.ensures c.in_ok-ty.was (V.alike _ K.Int c.ne.ensures c.if-ne.false) c.header_of_one.ensures; moves = M.stays _ _ _ }

@@ -1,26 +1,25 @@
 -- By the expression, and by its type.
-use mathlib.Core.Path.{ap}
+use mathlib.Core.Path.{sym}
 use native.Mathlib.Omega.{arith}
 use Rattle.rules.proofs.Valued as V
 use Rattle.rules.proofs.Stating as L
 use Rattle.rules.proofs.Moving as M
-use Rattle.rules.specs.Values.{result_in}
 use Rattle.rules.proofs.single.give.Goals as goal
 
 pub first_expression-requires : goal.first_expression-requires
-first_expression-requires c = c.requires.after
+first_expression-requires g c = c.requires.after
 
 pub returns-in_err-ty : goal.returns-in_err-ty
-returns-in_err-ty c = rw (V.passed _ c.from_residual.ensures.1) (record { states = L.give_fault _ _ _ _ _ _ _ _ _ c.first_expression.ensures c.in_err-ty.was; moves = M.stuck _ _ _ _ })
+returns-in_err-ty g c = rw (V.passed _ c.from_residual.ensures.1) (record { states = L.give_fault _ _ _ _ _ _ _ _ _ c.first_expression.ensures c.in_err-ty.was; moves = M.stuck _ _ _ _ })
 
 pub returns-in_default : goal.returns-in_default
-returns-in_default c = record { states = L.give_nothing _ _ _ _ _ _ _ _ _ c.first_expression.ensures c.in_ok-ty.was (ap result_in c.in_default.is); moves = M.stuck _ _ _ _ }
+returns-in_default g c = record { states = L.give_nothing _ _ _ _ _ _ _ _ _ c.first_expression.ensures c.in_ok-ty.was (sym c.in_default.ensures); moves = M.stuck _ _ _ _ }
 
 pub returns-then-ne : goal.returns-then-ne
-returns-then-ne c = record { states = L.give_wrong _ _ _ _ _ _ _ _ _ c.first_expression.ensures c.in_ok-ty.was (ap result_in c.in-Some.is) (V.unlike _ _ c.ne.ensures c.if-ne.true); moves = M.stuck _ _ _ _ }
+returns-then-ne g c = record { states = L.give_wrong _ _ _ _ _ _ _ _ _ c.first_expression.ensures c.in_ok-ty.was (sym c.in-Some.ensures) (V.unlike _ _ c.ne.ensures c.if-ne.true); moves = M.stuck _ _ _ _ }
 
 pub header_of_one-requires : goal.header_of_one-requires
-header_of_one-requires c = omega (arith, c.requires.header, c.first_expression.auto.core)
+header_of_one-requires g c = omega (arith, c.requires.header, c.first_expression.auto.core)
 
 pub returns : goal.returns
-returns c = record { states = L.give_next _ _ _ _ _ _ _ _ _ c.first_expression.ensures c.in_ok-ty.was (ap result_in c.in-Some.is) (V.alike _ _ c.ne.ensures c.if-ne.false) c.header_of_one.ensures; moves = M.stays _ _ _ }
+returns g c = record { states = L.give_next _ _ _ _ _ _ _ _ _ c.first_expression.ensures c.in_ok-ty.was (sym c.in-Some.ensures) (V.alike _ _ c.ne.ensures c.if-ne.false) c.header_of_one.ensures; moves = M.stays _ _ _ }
