@@ -1,7 +1,10 @@
 -- An arm that two variants share, and what `?` hands over.
 use mathlib.Core.Path.{◌≡◌, sym, ap, ◌∙◌}
-use mathlib.Core.Logic.{◌⊎◌, ⊎_elim}
+use mathlib.Core.Logic.{◌⊎◌, inl, inr, ⊎_elim}
 use Prim.Native.Nat.{ℕ}
+use lib.Dec.{eqb}
+use borrow.Author.Tests.{ne_eqb}
+use Rattle.word.specs.Choice.{pick}
 use Rattle.std.specs.Prelude.{Result, Ok, Err, None, IsErrAnd}
 use Rattle.console.specs.declared.arguments.Setting.{Setting}
 use Rattle.console.specs.declared.arguments.Word.{Word}
@@ -21,3 +24,8 @@ valued_other p w i s g k h = ap made h ∙ sym (⊎_elim (λ e. ap (λ v. valued
 pub err_is : (r : Result Given Wrong) (x : Wrong) → IsErrAnd r (λ e. e ≡ x) → r ≡ Err x
 err_is (Ok g) x h = absurd h
 err_is (Err e) x h = ap Err h
+
+-- with no input, or no block, neither is too much
+pub one_source : {A : Type 0} (a b : ℕ) (s t : A) → (a ≡ 0) ⊎ ((a ≡ 0 → ⊥) × (b ≡ 0)) → s ≡ pick (eqb a 0) s (pick (eqb b 0) s t)
+one_source a b s t (inl e) = rw e
+one_source a b s t (inr (n, e)) = rw (ne_eqb a 0 n, e)

@@ -18,11 +18,13 @@ use Rattle.console.specs.declared.arguments.Word.{Word}
 use Rattle.console.specs.declared.arguments.Wrong.{Wrong}
 use Rattle.console.specs.declared.arguments.Given.{Given}
 use Rattle.console.specs.declared.arguments.Seen.{Seen}
+use Rattle.console.specs.Table as T
+use Rattle.console.specs.declared.places.Seen as P
 use Rattle.console.specs.Places.{at, after_byte, after_all}
 use Rattle.console.specs.declared.place.Place.{Place}
 use Rattle.console.specs.Numbers.{Input, at_most, number_of, read_byte, read_bytes}
 use Rattle.console.specs.declared.numbers.NumberError.TheVariants.{TooLarge, NoNumber}
-use Rattle.std.specs.Prelude.{Result, Ok, Err}
+use Rattle.std.specs.Prelude.{Option, Result, Ok, Err}
 
 module _ (c : Command) (ws : List Word) (i : ℕ) where
   pub see_on : (r : Result Seen Wrong) (s t : Seen) (d : Word) → r ≡ see_all c (drop i ws) (i + 2) s → i < length ws → Ok t ≡ see_of c (get_or ws i d) (i + 2) s → r ≡ see_all c (drop (i + 1) ws) (i + 1 + 2) t
@@ -46,6 +48,23 @@ said_bad c ws x r e h = rw (e, h)
 pub said_good : (c : Command) (ws : List Word) (s : Seen) (r : Result Given Wrong) → see_all c ws 2 fresh ≡ Ok s → r ≡ ended c s → r ≡ said c ws
 unfolding said then
 said_good c ws s r e h = rw (e, h)
+
+-- The same by the numbers of places.
+
+module _ (c : Option Command) (ps : List ℕ) (i : ℕ) where
+  pub line_on : (w l m : T.Line) → w ≡ T.see_all c (drop i ps) (i + 2) l → i < length ps → m ≡ T.see_of c (get_or ps i 0) (i + 2) l → w ≡ T.see_all c (drop (i + 1) ps) (i + 1 + 2) m
+  unfolding T.see_all
+  line_on w l m e h q =
+      let n : suc (i + 2) ≡ suc i + 2 = omega arith in
+      e ∙ rw (drop-cons ps i 0 h, q, add-one i) (ap (λ k. T.see_all c (drop (suc i) ps) k (T.see_of c (get_or ps i 0) (i + 2) l)) n)
+
+  pub line_out : (w l : T.Line) → w ≡ T.see_all c (drop i ps) (i + 2) l → length ps ≤ i → w ≡ l
+  unfolding T.see_all
+  line_out w l e h = e ∙ rw (drop_of_length-le ps h)
+
+pub line_said : (c : Option Command) (ps g : List ℕ) (r : P.Seen) (l : T.Line) → T.see_all c ps 2 (T.line T.fresh g) ≡ l → r ≡ T.ended c l.seen l.given → T.line r l.given ≡ T.said c ps g
+unfolding T.said
+line_said c ps g r l e h = rw (e, h)
 
 -- An input text.
 

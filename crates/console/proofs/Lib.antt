@@ -3,3 +3,4 @@ pub mod Compared
 pub mod Folds
 pub mod Phases
 pub mod Showing
+pub mod Tied

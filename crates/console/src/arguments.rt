@@ -32,15 +32,15 @@ pub enum Word {
     Other,
 }
 
-// What can be wrong with the arguments.
+// What can be wrong with the arguments, each with its number.
 #[derive(Clone, Copy)]
 pub enum Problem {
-    NotTaken,
-    Twice,
-    NoValue,
-    TooManyFiles,
-    NoFile,
-    InputAndBlock,
+    NotTaken = 1,
+    Twice = 2,
+    NoValue = 3,
+    TooManyFiles = 4,
+    NoFile = 5,
+    InputAndBlock = 6,
 }
 
 // What is wrong, and at which argument.
@@ -140,7 +140,7 @@ pub fn word_of(word: &[u8]) -> Word
 impl Command {
     // Whether the command takes the option.
     #[tactic(auto, unfolding(crate::specs::Arguments::takes_of, crate::specs::Arguments::run_takes, crate::specs::Arguments::exec_takes))]
-    fn takes(self, setting: Setting) -> bool
+    pub fn takes(self, setting: Setting) -> bool
         ensures { result ≡ takes_of self setting }
     {
         match self {
@@ -162,7 +162,7 @@ impl Command {
 
     // How many files the command takes: two at most.
     #[tactic(auto, unfolding(crate::specs::Arguments::files_of))]
-    fn files(self) -> usize
+    pub fn files(self) -> usize
         ensures number { result ≡ files_of self }
         ensures most { result ≤ 2 }
     {
