@@ -85,11 +85,22 @@ impl<'a> Program<'a> {
         None
     }
 
-    // The array or function of this name.
+    // The array or function of this name. A loop beside `find`'s: a name of another length is passed over before it is read where it stands, which a
+    // look-up among many names spends most of its time on.
     pub fn find_global(&self, name: Name) -> Option<Global>
         ensures { FindsGlobal self.now (part self.now.text.now name.place name.length) result }
     {
-        self.find(|other| same_name(self.text, other, name))
+        for i in (0..self.count).rev() {
+            let h = word(self.globals, GLOBAL_WORDS * i) as usize;
+            let length = word(self.tree, h + NAME_LENGTH);
+            if length == name.length {
+                let place = word(self.tree, h + NAME_PLACE);
+                if same_name(self.text, Name { place, length }, name) {
+                    return Some(Global::read(self.globals, i));
+                }
+            }
+        }
+        None
     }
 
     // The function of this name.
