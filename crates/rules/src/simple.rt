@@ -27,6 +27,7 @@ pub fn simple<R: ResultType, K: StatementKind>(
         (drop spot.tree program.now.tree.now) spot.core core.old result locals.new core.new }
     ensures moves { Moves spot.scope.visible spot.scope.count locals.old result locals.new }
 {
+    // no statement has a number that is no kind's
     let Some(kind) = head.kind.statement() else {
         return Err(Broken(0));
     };
