@@ -19,7 +19,7 @@ use Rattle.console.specs.declared.arguments.Wrong.{Wrong}
 use Rattle.console.specs.declared.arguments.Given.{Given}
 use Rattle.console.specs.declared.arguments.Seen.{Seen}
 use Rattle.console.specs.Table as T
-use Rattle.console.specs.declared.places.Seen as P
+use Rattle.console.specs.declared.table.Seen as P
 use Rattle.console.specs.Places.{at, after_byte, after_all}
 use Rattle.console.specs.declared.place.Place.{Place}
 use Rattle.console.specs.Numbers.{Input, at_most, number_of, read_byte, read_bytes}

@@ -8,7 +8,7 @@ use Rattle.console.specs.declared.arguments.Setting.{Setting}
 use Rattle.console.specs.declared.arguments.Setting.TheVariants.{Input, Block, Fuel, Limit, Room, Memory}
 use Rattle.console.specs.declared.arguments.Problem.{Problem}
 use Rattle.console.specs.declared.arguments.Problem.TheVariants.{NotTaken, Twice, NoValue, TooManyFiles, NoFile, InputAndBlock}
-use Rattle.console.specs.declared.places.Seen.{Seen}
+use Rattle.console.specs.declared.table.Seen.{Seen}
 use Rattle.console.specs.Arguments as A
 
 -- A place for each option, and for each of two files. A word that is no option's name is a file's, unless it begins with a dash: then it is unknown.

@@ -5,5 +5,5 @@ pub mod arguments; // the command, its options and its files
 pub mod lent; // buffers of a program
 pub mod numbers; // numbers of options and of an input text
 pub mod place; // lines and columns
-pub mod places; // the arguments again, by the numbers of their places
 pub mod shown; // numbers as people read them
+pub mod table; // the arguments again, by the numbers of their places

@@ -2,7 +2,7 @@
 use mathlib.Core.Path.{sym, ◌∙◌}
 use borrow.Author.Tests.{eq-eqb, ne_eqb}
 use Rattle.console.specs.Table.{named}
-use Rattle.console.proofs.places.Seen.name.Goals as goal
+use Rattle.console.proofs.table.Seen.name.Goals as goal
 
 pub returns-then-not-takes : goal.returns-then-not-takes
 unfolding named

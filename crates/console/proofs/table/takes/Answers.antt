@@ -3,7 +3,7 @@ use mathlib.Core.Path.{sym, ap, ◌∙◌}
 use Rattle.std.specs.Prelude.{is_some}
 use Rattle.console.specs.Table.{takes_of}
 use Rattle.console.proofs.Tied.{takes_option, takes_past, takes_unknown}
-use Rattle.console.proofs.places.takes.Goals as goal
+use Rattle.console.proofs.table.takes.Goals as goal
 
 pub returns-in_default : goal.returns-in_default
 unfolding takes_of

@@ -4,7 +4,7 @@ use borrow.Author.Tests.{eq-eqb, ne_eqb, lt-ltb, le-ltb}
 use native.Mathlib.Omega.{arith}
 use Rattle.console.specs.Table.{ended, files_of}
 use Rattle.console.proofs.Arms.{one_source}
-use Rattle.console.proofs.places.Seen.end.Goals as goal
+use Rattle.console.proofs.table.Seen.end.Goals as goal
 
 pub returns-then-is_some : goal.returns-then-is_some
 unfolding ended

@@ -2,7 +2,7 @@
 use mathlib.Core.Path.{sym, ap, ◌∙◌}
 use borrow.Author.Tests.{eq-eqb, ne_eqb}
 use Rattle.console.specs.Table.{see_of, line}
-use Rattle.console.proofs.places.Seen.see.Goals as goal
+use Rattle.console.proofs.table.Seen.see.Goals as goal
 
 pub returns-then-is_some : goal.returns-then-is_some
 unfolding see_of

@@ -1,6 +1,6 @@
 -- `value` meets its contract.
 use Rattle.console.specs.Table.{valued}
-use Rattle.console.proofs.places.Seen.value.Goals as goal
+use Rattle.console.proofs.table.Seen.value.Goals as goal
 
 pub returns : goal.returns
 unfolding valued

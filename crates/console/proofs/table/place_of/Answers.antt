@@ -3,7 +3,7 @@ use Rattle.console.specs.declared.arguments.Setting.TheVariants.{Input, Block, F
 use Rattle.console.specs.declared.arguments.Word.TheVariants.{Unknown, Other}
 use Rattle.console.specs.Table.{option_place}
 use Rattle.console.proofs.Tied.{word_place, place_is, place_named}
-use Rattle.console.proofs.places.place_of.Goals as goal
+use Rattle.console.proofs.table.place_of.Goals as goal
 
 pub returns-in-Name-Input : goal.returns-in-Name-Input
 unfolding option_place

@@ -2,7 +2,7 @@
 use borrow.Author.Tests.{lt-ltb, le-ltb}
 use native.Mathlib.Omega.{arith}
 use Rattle.console.specs.Table.{filed, files_of}
-use Rattle.console.proofs.places.Seen.file.Goals as goal
+use Rattle.console.proofs.table.Seen.file.Goals as goal
 
 pub returns-then-n-files : goal.returns-then-n-files
 unfolding filed
