@@ -91,12 +91,13 @@ impl<'a> Program<'a> {
         ensures { FindsGlobal self.now (part self.now.text.now name.place name.length) result }
     {
         for i in (0..self.count).rev() {
-            let header = word(self.globals, GLOBAL_WORDS * i) as usize;
-            let length = word(self.tree, header + NAME_LENGTH);
+            let header = word(self.globals, GLOBAL_WORDS * i);
+            let length = word(self.tree, header as usize + NAME_LENGTH);
             if length == name.length {
-                let place = word(self.tree, header + NAME_PLACE);
+                let place = word(self.tree, header as usize + NAME_PLACE);
                 if same_name(self.text, Name { place, length }, name) {
-                    return Some(Global::read(self.globals, i));
+                    let value = word(self.globals, GLOBAL_WORDS * i + GLOBAL_VALUE);
+                    return Some(Global { header, value });
                 }
             }
         }

@@ -8,7 +8,7 @@ pub loop-i-init : goal.loop-i-init
 loop-i-init c = record { rest = refl; among = omega arith }
 
 pub returns-then-same_name : goal.returns-then-same_name
-returns-then-same_name c = L.global_found _ c.loop-i.invariant c.loop-i-test.true c.word-header.ensures c.word-place.ensures c.word-length.ensures c.same_name.ensures c.read.ensures.header c.read.ensures.value c.if-same_name.true
+returns-then-same_name c = L.global_found _ c.loop-i.invariant c.loop-i-test.true c.word-header.ensures c.word-place.ensures c.word-length.ensures c.same_name.ensures c.word-header.ensures c.word-value.ensures c.if-same_name.true
 
 pub loop-i-preserved-else-same_name : goal.loop-i-preserved-else-same_name
 loop-i-preserved-else-same_name c = L.global_onward _ c.loop-i.invariant c.loop-i-test.true c.word-header.ensures c.word-place.ensures c.word-length.ensures c.same_name.ensures c.if-same_name.false
