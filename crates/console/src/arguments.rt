@@ -3,6 +3,9 @@ ghost use Rattle.std.specs.Prelude.{◌≡◌, ◌+◌, ◌<◌, ◌≤◌, ◌^
 ghost use Rattle.language.specs.Tokens.{same, starts, is};
 ghost use Rattle.console.specs.Arguments.{command_of, word_of, run_takes, exec_takes, takes_of, files_of, given_for, with_given, with_file, sources, valued, filed, named, see_of, ended, said};
 
+// Of the functions over places (`table`) the two whose names nothing else has here.
+pub use crate::table::{given_for, place_of};
+
 #[derive(Clone, Copy, PartialEq, Eq)]
 pub enum Command {
     Help,

@@ -1,4 +1,4 @@
-// Numbers in place of what they number: the core's words hold both alike.
+// Numbers in place of what they number.
 ghost use Rattle.std.specs.Prelude.{◌≡◌, ℕ};
 ghost use Rattle.flat.specs.declared.operator.Strict as O;
 ghost use Rattle.flat.specs.declared.operator.Unary as U;
@@ -8,7 +8,7 @@ use crate::operator::{Strict, Unary};
 use crate::trap::Trap;
 use crate::{item, statement};
 
-// What is written as a word: a kind or a trap, by its number, or any number itself.
+// What is written as a number: a kind or a trap, or any number itself.
 pub trait Numbered: Copy {
     ghost number_of: { Self → ℕ };
 

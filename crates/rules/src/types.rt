@@ -2,6 +2,7 @@
 ghost use Rattle.std.specs.Prelude.{◌≡◌, ℕ, ◌≤◌, refl};
 ghost use Rattle.std.proofs.Math.Option as M;
 ghost use Rattle.language.specs.Tree.{Ty};
+ghost use Rattle.language.specs.Rules.{same_ty};
 ghost use Rattle.grammar.specs.Numbers.{number_of_type};
 ghost use Rattle.rules.specs.Tables.{type_of, result_of, types_from, same_types};
 ghost use Rattle.rules.specs.Bounds.{most_places};
@@ -27,7 +28,7 @@ pub fn result_type(n: u32) -> Option<ValueType>
     Some(value_type(n))
 }
 
-// What names a function's result type, if it has one: the type itself, or any number (`result_type`).
+// What says which type a function's result has, if it has one: a type or none, or any number (`result_type`).
 pub trait ResultType: Copy {
     ghost result_named: { Self → M.Option Ty };
 
@@ -57,9 +58,9 @@ pub fn same_types(ts: &[u32], i: usize, tree: &[u32], j: usize, n: u32) -> bool
     ensures { result ≡ same_types (types_from ts.now 1 i n) (types_from tree.now 3 j n) }
 {
     for k in 0..n {
-        let x = value_type(word(ts, i + k as usize));
-        let y = value_type(word(tree, j + 3 * k as usize));
-        if x != y {
+        let x = word(ts, i + k as usize);
+        let y = word(tree, j + 3 * k as usize);
+        if !same_type(x, y) {
             return false;
         }
     }
@@ -112,4 +113,11 @@ impl Typed for u32 {
     fn value_type(self) -> ValueType {
         value_type(self)
     }
+}
+
+// Whether two types are the same.
+pub fn same_type<T: Typed, U: Typed>(x: T, y: U) -> bool
+    ensures { result ≡ same_ty (T.type_named x) (U.type_named y) }
+{
+    x.value_type() == y.value_type()
 }
