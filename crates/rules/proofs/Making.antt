@@ -174,28 +174,28 @@ of_function text gs p a make = go (global_of gs (part text p a))
     go none = refl
     go (some g) = refl
 
-module _ (q : Program) (p a : ℕ) where
-  pub named_none : FindsFunction q p a None → (make : Signature → Option Node) → none ≡ and_then (global_of (globals_of q) (part q.text.now p a)) (λ g. and_then (is_function g.thing) make)
-  named_none f make = sym (of_function q.text.now (globals_of q) p a make ∙ rw f.is refl)
+module _ (text : List ℕ) (gs : List Global) (p a : ℕ) where
+  pub named_none : function_named text gs p a ≡ none → (make : Signature → Option Node) → none ≡ and_then (global_of gs (part text p a)) (λ g. and_then (is_function g.thing) make)
+  named_none f make = sym (of_function text gs p a make ∙ rw f refl)
 
-  pub named_some : {g : P.Global} → FindsFunction q p a (Some g) → (make : Signature → Option Node) → make (signature q.tree.now g.header g.value) ≡ and_then (global_of (globals_of q) (part q.text.now p a)) (λ g. and_then (is_function g.thing) make)
-  named_some f make = sym (of_function q.text.now (globals_of q) p a make ∙ rw f.is refl)
+  pub named_some : {s : Signature} → function_named text gs p a ≡ some s → (make : Signature → Option Node) → make s ≡ and_then (global_of gs (part text p a)) (λ g. and_then (is_function g.thing) make)
+  named_some f make = sym (of_function text gs p a make ∙ rw f refl)
 
   module _ (n here : ℕ) (os : List Operand) where
-    pub no_callee : FindsFunction q p a None → none ≡ called_node q.text.now (globals_of q) p a n here os
+    pub no_callee : function_named text gs p a ≡ none → none ≡ called_node text gs p a n here os
     unfolding called_node
     no_callee f = named_none f (λ s. and_then s.result (λ t. call_node s n here 1 t os))
 
-    module _ {g : P.Global} (f : FindsFunction q p a (Some g)) {t : ℕ} (u : t ≡ word q.tree.now (g.header + 4)) where
-      pub no_result : none ≡ result_of t → none ≡ called_node q.text.now (globals_of q) p a n here os
+    module _ (tree : List ℕ) (h v : ℕ) (f : function_named text gs p a ≡ some (signature tree h v)) {t : ℕ} (u : t ≡ word tree (h + 4)) where
+      pub no_result : none ≡ result_of t → none ≡ called_node text gs p a n here os
       unfolding called_node
       no_result y = rw (← u, ← y) refl ∙ named_some f (λ s. and_then s.result (λ t. call_node s n here 1 t os))
 
-      pub with_result : {w : Ty} {o : Option Node} → some w ≡ result_of t → o ≡ call_node (signature q.tree.now g.header g.value) n here 1 w os → o ≡ called_node q.text.now (globals_of q) p a n here os
+      pub with_result : {w : Ty} {o : Option Node} → some w ≡ result_of t → o ≡ call_node (signature tree h v) n here 1 w os → o ≡ called_node text gs p a n here os
       unfolding called_node
       with_result {w} y e = e ∙ (has ∙ named_some f (λ s. and_then s.result (λ t. call_node s n here 1 t os)))
         where
-          has : call_node (signature q.tree.now g.header g.value) n here 1 w os ≡ and_then (result_of (word q.tree.now (g.header + 4))) (λ t. call_node (signature q.tree.now g.header g.value) n here 1 t os)
+          has : call_node (signature tree h v) n here 1 w os ≡ and_then (result_of (word tree (h + 4))) (λ t. call_node (signature tree h v) n here 1 t os)
           has = rw (← u, ← y) refl
 
 -- Which kind it is

@@ -17,16 +17,14 @@ use Rattle.grammar.proofs.FlatLaws.{args_linear}
 use Rattle.flat.specs.Items.{codes}
 use Rattle.flat.specs.Statements.{flat}
 use Rattle.flat.specs.Words.{items_words, stmt_words, rest_length}
-use Rattle.rules.specs.Tables.{part, same_types, locals_in, signature}
-use Rattle.rules.specs.Scan.{Operand, Node, Scanned, sole, uppermost, first_start, call_node, scan}
+use Rattle.rules.specs.Tables.{part, same_types, locals_in}
+use Rattle.rules.specs.Scan.{Operand, Node, Scanned, sole, uppermost, first_start, call_node, scan, function_named}
 use Rattle.rules.specs.Named.{NamedArgs}
 use Rattle.std.specs.Prelude.{Some, None, Result, Ok, Err}
-use Rattle.rules.specs.declared.program.Program.{Program}
-use Rattle.rules.specs.declared.program.Global as P
 use Rattle.rules.specs.declared.nodes.Made.{Made}
 use Rattle.rules.specs.declared.Broken.{Broken}
 use Rattle.rules.specs.declared.Scope as S
-use Rattle.rules.specs.Values.{made, node_in, globals_of, FindsFunction, broken_at, scope_at}
+use Rattle.rules.specs.Values.{made, node_in, broken_at, scope_at}
 use Rattle.rules.specs.Post.{operands_in, nothing_scanned, Wrote, ScanCase, Scans, scope_of, Stated, StmtCase}
 use Rattle.rules.specs.Statements.{dropped_node, Runs}
 use Rattle.rules.proofs.Sizes.{args_of, types_of, sized_all}
@@ -40,14 +38,14 @@ use Rattle.rules.proofs.Storing.{Found, two_rows}
 
 -- A call whose result is dropped, in words
 
-module _ (q : Program) (p a : ℕ) (n : ℕ) (os : List Operand) where
-  pub no_function : FindsFunction q p a None → none ≡ dropped_node q.text.now (globals_of q) p a n os
+module _ (text : List ℕ) (gs : List Global) (p a : ℕ) (n : ℕ) (os : List Operand) where
+  pub no_function : function_named text gs p a ≡ none → none ≡ dropped_node text gs p a n os
   unfolding dropped_node
-  no_function f = named_none q p a f (λ s. call_node s n 0 0 int os)
+  no_function f = named_none text gs p a f (λ s. call_node s n 0 0 int os)
 
-  pub drops : {g : P.Global} {o : Option Node} → FindsFunction q p a (Some g) → o ≡ call_node (signature q.tree.now g.header g.value) n 0 0 int os → o ≡ dropped_node q.text.now (globals_of q) p a n os
+  pub drops : {s : Signature} {o : Option Node} → function_named text gs p a ≡ some s → o ≡ call_node s n 0 0 int os → o ≡ dropped_node text gs p a n os
   unfolding dropped_node
-  drops f e = e ∙ named_some q p a f (λ s. call_node s n 0 0 int os)
+  drops f e = e ∙ named_some text gs p a f (λ s. call_node s n 0 0 int os)
 
 -- Its own rules
 

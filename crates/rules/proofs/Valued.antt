@@ -51,11 +51,11 @@ same_is V.Int V.Bool = refl
 same_is V.Bool V.Int = refl
 same_is V.Bool V.Bool = refl
 
-denied : (b : Bool) → not b ≡ true → b ≡ false
+pub denied : (b : Bool) → not b ≡ true → b ≡ false
 denied true e = sym e
 denied false e = refl
 
-granted : (b : Bool) → not b ≡ false → b ≡ true
+pub granted : (b : Bool) → not b ≡ false → b ≡ true
 granted true e = refl
 granted false e = sym e
 
