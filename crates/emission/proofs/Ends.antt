@@ -7,6 +7,10 @@ use Rattle.processor.specs.declared.Cond.TheVariants.{Ne}
 use Rattle.processor.specs.declared.Instr.TheVariants.{Lui, Jal, Jalr, Branch, OpImm, Ecall}
 use Rattle.language.specs.Meaning.{division_by_zero, index_outside, too_many_activations}
 use denote.Enum.Declared.{tag_of}
+use Rattle.flat.specs.contracts.trap.Trap as TrapProofs
+use Rattle.flat.specs.declared.trap.Trap.{Trap}
+use Rattle.flat.specs.declared.trap.Trap.TheVariants as R
+use Rattle.flat.specs.Numbers.{trap_number}
 use Rattle.symbolic.specs.Symbolic.{x0, ra, sp, answer, request, opi, lw, sw, branch, call, ecall}
 use Rattle.symbolic.specs.Real.{distance}
 use Rattle.codegen.specs.Operators.{stub, trapping}
@@ -19,7 +23,14 @@ use Rattle.emission.specs.declared.image.Service.TheVariants as SV
 use Rattle.emission.specs.Macros.{EmitsAt, service_number}
 use Rattle.emission.proofs.Laws.{one, last, after}
 
--- the number that the code passes is the service's
+-- the numbers that the code passes are the trap's and the service's
+tag_number : (t : Trap) → tag_of TrapProofs.the_type t ≡ trap_number t
+tag_number R.Malformed = refl
+tag_number R.DivisionByZero = refl
+tag_number R.IndexOutside = refl
+tag_number R.TooManyActivations = refl
+tag_number R.LogFull = refl
+
 service_tag : (s : Service) → tag_of ServiceProofs.the_type s ≡ service_number s
 service_tag SV.Exit = refl
 service_tag SV.Log = refl
@@ -36,9 +47,14 @@ module _ {at r₁ r₂ : ℕ} {ws ws₁ ws₂ : List ℕ} where
       Emits (opi Add request x0 (service_number s) ∷ ecall ∷ []) at ws ws₂ r₂
   requests s e h = one e (ap (λ (n : ℕ). OpImm Add 17 0 n) (sym (service_tag s))) h
 
-  pub traps_by : {n t : ℕ} → n ≡ t → Emits (opi Add request x0 2 ∷ ecall ∷ []) at ws ws₁ r₁ → Puts (OpImm Add 10 0 n) r₁ ws₁ ws₂ r₂ →
+  -- a trap's stub, by any number, and by the trap
+  pub traps_numbered : {n t : ℕ} → n ≡ t → Emits (opi Add request x0 2 ∷ ecall ∷ []) at ws ws₁ r₁ → Puts (OpImm Add 10 0 n) r₁ ws₁ ws₂ r₂ →
       Emits (trapping t) at ws ws₂ r₂
-  traps_by f e h = one e (ap (λ (m : ℕ). OpImm Add 10 0 m) (sym f)) h
+  traps_numbered f e h = one e (ap (λ (m : ℕ). OpImm Add 10 0 m) (sym f)) h
+
+  pub traps_by : (t : Trap) → Emits (opi Add request x0 2 ∷ ecall ∷ []) at ws ws₁ r₁ → Puts (OpImm Add 10 0 (tag_of TrapProofs.the_type t)) r₁ ws₁ ws₂ r₂ →
+      Emits (trapping (trap_number t)) at ws ws₂ r₂
+  traps_by t = traps_numbered (tag_number t)
 
 pub asks : {at r : ℕ} {ws ws' : List ℕ} → Puts Ecall at ws ws' r → Emits (ecall ∷ []) at ws ws' r
 asks h = last refl h

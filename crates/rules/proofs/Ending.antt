@@ -151,6 +151,9 @@ module _ {tree : List ℕ} {p n i at : ℕ} {ends : Bool} (c : Ending tree p n i
     pub ending_short : {r : Bool} → length tree < at + 8 → Ends n (drop p tree) r
     ending_short e = record { by = λ b more ew en. absurd (omega (arith, e, there (stands b more ew en))) }
 
+    pub ending_odd : {r : Bool} → 10 < word (drop at tree) 0 → Ends n (drop p tree) r
+    ending_odd e = record { by = λ b more ew en. let a = stands b more ew en in absurd (omega (arith, e, kind_few a.first (G.block_words a.rest more), ap (λ (w : List ℕ). word w 0) a.words)) }
+
     module _ {rest : ℕ} (er : rest ≡ word tree (at + 7)) where
       pub ending_cut : {r : Bool} → length tree < at + (8 + rest) → Ends n (drop p tree) r
       ending_cut e = record { by = λ b more ew en. absurd (omega (arith, e, er, word_there tree at 7, there (stands b more ew en))) }

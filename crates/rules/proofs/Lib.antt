@@ -7,6 +7,7 @@ pub mod Coding
 pub mod Expressions
 pub mod Stacks
 pub mod Making
+pub mod Kinded
 pub mod Scanning
 pub mod Elaborating
 pub mod Lengths

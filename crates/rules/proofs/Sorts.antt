@@ -6,6 +6,7 @@ use mathlib.Core.Logic.{◌⊎◌, inl, inr}
 use Prim.Native.Nat.{ℕ, zero, suc, ◌≤◌, ◌<◌}
 use native.Mathlib.Omega.{arith}
 use borrow.Author.Tests.{ne_eqb}
+use denote.Enum.Declared.{tag_of}
 use Rattle.language.specs.Tree.{Ty, int, bool}
 use Rattle.language.specs.Tree as T
 use Rattle.grammar.specs.Flat as G
@@ -15,8 +16,23 @@ use Rattle.flat.specs.declared.UnknownNumber.{UnknownNumber}
 use Rattle.grammar.specs.Numbers.{number_of_statement, ReadsStatement}
 use Rattle.grammar.specs.declared.tree.Statement.{Statement}
 use Rattle.grammar.specs.declared.tree.Statement.TheVariants as V
+use Rattle.flat.specs.Numbers.{statement_number}
+use Rattle.flat.specs.contracts.statement.Kind.{the_type}
+use Rattle.flat.specs.declared.statement.Kind as K
+use Rattle.flat.specs.declared.statement.Kind.TheVariants as KV
 use Rattle.rules.specs.Tables.{word}
 use Rattle.rules.specs.Statements.{KindCase, declared_type, holds_blocks}
+
+-- the number of a core statement's kind
+pub statement_is : (k : K.Kind) → tag_of the_type k ≡ statement_number k
+statement_is KV.Put = refl
+statement_is KV.Store = refl
+statement_is KV.Choose = refl
+statement_is KV.While = refl
+statement_is KV.Leave = refl
+statement_is KV.Give = refl
+statement_is KV.Emit = refl
+statement_is KV.Run = refl
 
 -- the kind that a number stands for
 abbrev pub kind_of : ℕ → Statement

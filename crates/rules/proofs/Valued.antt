@@ -14,10 +14,14 @@ use Rattle.std.specs.Result.{IsErrAnd, result_unwrap_or}
 use Rattle.grammar.specs.Numbers.{ReadsType}
 use Rattle.flat.specs.declared.UnknownNumber.{UnknownNumber}
 use Rattle.rules.specs.declared.Broken.{Broken}
-use Rattle.language.specs.Tree.{Ty}
+use Rattle.language.specs.Tree.{Ty, int, bool}
 use Rattle.language.specs.Rules.{same_ty}
 use Rattle.rules.specs.Tables.{word, type_of, result_of, local_at}
 use Rattle.rules.specs.Values.{meant, known}
+use Rattle.flat.specs.Numbers.{kind_number}
+use Rattle.flat.specs.declared.item.Kind as I
+use Rattle.flat.specs.declared.item.Kind.TheVariants as IV
+use Rattle.flat.specs.contracts.item.Kind.{the_type as item_type}
 use Rattle.grammar.specs.contracts.tree.ValueType.{the_type}
 use Rattle.grammar.specs.declared.tree.ValueType.{ValueType}
 use Rattle.grammar.specs.declared.tree.ValueType.TheVariants as V
@@ -82,7 +86,33 @@ pub local_read : (text ws : List ℕ) (i : ℕ) {place length : ℕ} (t : ValueT
 unfolding local_at
 local_read text ws i t e f g h = rw (e, f, g, h) refl
 
+flip : (t u : Ty) → same_ty t u ≡ same_ty u t
+flip int int = refl
+flip int bool = refl
+flip bool int = refl
+flip bool bool = refl
+
+twice : (b : Bool) → not (not b) ≡ b
+twice true = refl
+twice false = refl
+
+-- what a test of two types that are read in words says
+pub words_alike : (x y : ValueType) {n m p q : ℕ} {r : Bool} → meant x ≡ type_of n → n ≡ p → meant y ≡ type_of m → m ≡ q → r ≡ not (sameb the_type x y) → not r ≡ same_ty (type_of p) (type_of q)
+words_alike x y e f g h k = ap not k ∙ (twice (sameb the_type x y) ∙ (same_is x y ∙ (flip (meant y) (meant x) ∙ rw (through e f, through g h) refl)))
+
 -- a broken rule that is passed on
 pub passed : {A : Type 0} (r : Result A Broken) {b : Broken} → IsErrAnd r (λ y. y ≡ b) → r ≡ Err b
 passed (Ok a) h = absurd h
 passed (Err y) h = ap (λ (z : Broken). Err z) h
+
+-- the number of an item's kind
+pub kind_is : (k : I.Kind) → tag_of item_type k ≡ kind_number k
+kind_is IV.Number = refl
+kind_is IV.Local = refl
+kind_is IV.Element = refl
+kind_is IV.Call = refl
+kind_is IV.Unary = refl
+kind_is IV.Strict = refl
+kind_is IV.And = refl
+kind_is IV.Or = refl
+kind_is IV.Join = refl

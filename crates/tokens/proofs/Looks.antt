@@ -12,7 +12,7 @@ use lib.ListN.{length, get_or, take, drop, length-drop, length-append, drop_of_l
 use lib.Seq.{drop-cons, drop-drop, get_or-drop, take-append_seam}
 use borrow.Author.Tests.{ne_eqb, eqb-true, le-leb, lt-leb, ltb-true}
 use Rattle.word.specs.Choice.{pick, both}
-use Rattle.language.specs.Tokens.{Word, Sign, In, bytes, signs, begins, as_sign, unpadded, decimal, is_letter, is_digit, in_name, words, starts, same, span, find, or_name, name_at, number_at, token_at}
+use Rattle.language.specs.Tokens.{all, Word, Sign, In, bytes, signs, begins, as_sign, unpadded, decimal, is_letter, is_digit, in_name, words, starts, same, span, find, or_name, name_at, number_at, token_at}
 use Rattle.tokens.specs.Kinds.{kind_of, value_of, word_kind, sign_kind}
 use Rattle.tokens.specs.Seen.{Seen, seen, kind_or_none, sign_in}
 use Rattle.tokens.proofs.Lists.{span_split, every, every_in, both_true, either_right, Hit, find_hit}
@@ -104,7 +104,20 @@ unfolding decimal
 decimal_grows v [] = omega arith
 decimal_grows v (b ∷ w) = omega (arith, decimal_grows (v * 10 + (b - 48)) w)
 
--- one digit more, which counts d
+-- the digit at k, which counts d, and those after it
+module _ (w : List ℕ) (k : ℕ) (h : k < length w) where
+  pub digit_on : all is_digit (drop k w) ≡ true → (is_digit (get_or w k 0) ≡ true) × (all is_digit (drop (k + 1) w) ≡ true)
+  unfolding all
+  digit_on e =
+      let q : both (is_digit (get_or w k 0)) (all is_digit (drop (suc k) w)) ≡ true = ap (all is_digit) (sym (drop-cons w k 0 h)) ∙ e in
+      let r : (is_digit (get_or w k 0) ≡ true) × (all is_digit (drop (suc k) w) ≡ true) = both_true _ _ q in
+      (r.0, ap (λ (m : ℕ). all is_digit (drop m w)) (add-one k) ∙ r.1)
+
+  pub decimal_drop : (v d : ℕ) → d ≡ get_or w k 0 - 48 → decimal v (drop k w) ≡ decimal (v * 10 + d) (drop (k + 1) w)
+  unfolding decimal
+  decimal_drop v d q = rw (drop-cons w k 0 h, add-one, q)
+
+-- the same of the digits of a text: one more
 module _ (text : List ℕ) (j : ℕ) (h : j < length text) (v d : ℕ) (e : is_digit (get_or text j 0) ≡ true) (q : d ≡ get_or text j 0 - 48) where
   pub decimal_on : decimal v (span is_digit (drop j text)) ≡ decimal (v * 10 + d) (span is_digit (drop (j + 1) text))
   unfolding decimal span
