@@ -1,4 +1,4 @@
--- The phases of the reading of an input text: those that are none of those that are asked for, and that no phase of the caller's own comes of others.
+-- The phases of the reading of an input text: what is done in one that no arm names, and that a phase of the caller's own comes only of such a phase.
 use mathlib.Core.Path.{◌≡◌, refl}
 use Prim.Native.Nat.{ℕ, ◌+◌, ◌-◌, ◌*◌, ◌/◌}
 use lib.Dec.{ltb, leb}
@@ -44,7 +44,7 @@ no_fault Negative h k = refl
 no_fault (Faulty f) h k = absurd (h f refl)
 no_fault (Other n) h k = absurd (k n refl)
 
--- a byte more, at a fault and before one
+-- a byte more: at a fault, and in a phase that is neither a fault nor the caller's own
 pub read_faulty : (b : ℕ) (s : Input) (f : Fault) → s.reading.phase ≡ Faulty f → s ≡ read_byte b s
 unfolding read_byte is_fault
 read_faulty b s f e = rw e
@@ -63,7 +63,7 @@ pub digit_negative : (p : Phase) (d : ℕ) (r : Reading) → (p ≡ Dash) ⊎ (p
 unfolding digit_in
 digit_negative p d r k = ⊎_elim (λ e. rw e) (λ e. rw e) k
 
--- Of the reading's own phases come no others: who hands over none of its own gets none back.
+-- From the reading's phases come only the reading's: a caller that hands over no phase of its own gets none back.
 
 abbrev pub OfReading : Phase → Type 0
 OfReading Between = Unit {0}
@@ -89,7 +89,7 @@ stored_phase w s = go (ltb s.reading.count (length s.block / 4))
     go true = tt
     go false = tt
 
-blank_phase_in : (p : Phase) (s : Input) → OfReading p → OfReading s.reading.phase → OfReading (blank_in p s).reading.phase
+pub blank_phase_in : (p : Phase) (s : Input) → OfReading p → OfReading s.reading.phase → OfReading (blank_in p s).reading.phase
 unfolding blank_in
 blank_phase_in Between s h k = k
 blank_phase_in Dash s h k = tt
@@ -102,7 +102,7 @@ pub blank_phase : (s : Input) → OfReading s.reading.phase → OfReading (blank
 unfolding blank_after
 blank_phase s h = blank_phase_in s.reading.phase s h h
 
-dash_phase : (p : Phase) (r : Reading) → OfReading (dash_in p r).phase
+pub dash_phase : (p : Phase) (r : Reading) → OfReading (dash_in p r).phase
 unfolding dash_in
 dash_phase Between r = tt
 dash_phase Dash r = tt
@@ -115,7 +115,7 @@ more_phase : (p : Phase) (most d : ℕ) (r : Reading) → OfReading p → OfRead
 unfolding more_of
 more_phase p most d r h = one_of (leb (r.value * 10 + d) most) (at p (r.value * 10 + d) r) (at (Faulty OutOfRange) 0 r) h tt
 
-digit_phase : (p : Phase) (d : ℕ) (r : Reading) → OfReading (digit_in p d r).phase
+pub digit_phase : (p : Phase) (d : ℕ) (r : Reading) → OfReading (digit_in p d r).phase
 unfolding digit_in
 digit_phase Between d r = more_phase Positive _ d r tt
 digit_phase Dash d r = more_phase Negative _ d r tt
@@ -124,13 +124,13 @@ digit_phase Negative d r = more_phase Negative _ d r tt
 digit_phase (Faulty f) d r = more_phase Positive _ d r tt
 digit_phase (Other n) d r = more_phase Positive _ d r tt
 
-sign_phase : (b : ℕ) (r : Reading) → OfReading (sign_after b r).phase
+pub sign_phase : (b : ℕ) (r : Reading) → OfReading (sign_after b r).phase
 unfolding sign_after dash_after digit_after
 sign_phase b r =
     one_of (is "-" b) (dash_after r) (pick (is_digit b) (digit_after (b - 48) r) (at (Faulty NoNumber) 0 r)) (dash_phase r.phase r)
     (one_of (is_digit b) (digit_after (b - 48) r) (at (Faulty NoNumber) 0 r) (digit_phase r.phase (b - 48) r) tt)
 
-byte_phase : (b : ℕ) (s : Input) → OfReading s.reading.phase → OfReading (read_byte b s).reading.phase
+pub byte_phase : (b : ℕ) (s : Input) → OfReading s.reading.phase → OfReading (read_byte b s).reading.phase
 unfolding read_byte
 byte_phase b s h =
     one_input (is_fault s.reading.phase) s (pick (is_blank b) (blank_after s) (input (sign_after b s.reading) s.block)) h

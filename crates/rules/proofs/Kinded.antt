@@ -1,4 +1,5 @@
--- What an item becomes is an item of one of the core's kinds: its kind's number is one that `Kind::try_from` knows.
+-- What the rules make of an item is of one of the core's kinds: its number is one that `flat::item::Kind::try_from` knows. (Of `leaf` and `mark` the caller
+-- names the kind.)
 use mathlib.Core.Path.{◌≡◌, sym, subst}
 use mathlib.Core.Bool.{Bool, true, false}
 use mathlib.Core.List.{List}
@@ -19,7 +20,7 @@ abbrev pub Kinded : Option Node → Type 0
 Kinded none = Unit {0}
 Kinded (some n) = n.kind < 9
 
--- so it is of what a function gives that is one of these
+-- the same of the code's value, where its clause says which of these nodes it is
 pub made_kinded : (m : P.Option Made) {o : Option Node} → made m ≡ o → Kinded o → IfSome m (λ n. n.kind < 9)
 made_kinded P.None e h = tt
 made_kinded (P.Some m) e h = subst Kinded (sym e) h

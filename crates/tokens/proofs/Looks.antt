@@ -117,7 +117,7 @@ module _ (w : List ℕ) (k : ℕ) (h : k < length w) where
   unfolding decimal
   decimal_drop v d q = rw (drop-cons w k 0 h, add-one, q)
 
--- the same of the digits of a text: one more
+-- one digit more, which counts d
 module _ (text : List ℕ) (j : ℕ) (h : j < length text) (v d : ℕ) (e : is_digit (get_or text j 0) ≡ true) (q : d ≡ get_or text j 0 - 48) where
   pub decimal_on : decimal v (span is_digit (drop j text)) ≡ decimal (v * 10 + d) (span is_digit (drop (j + 1) text))
   unfolding decimal span
