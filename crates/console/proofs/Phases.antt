@@ -73,21 +73,21 @@ OfReading Negative = Unit {0}
 OfReading (Faulty f) = Unit {0}
 OfReading (Other n) = ⊥
 
-one_of : (b : Bool) (r t : Reading) → OfReading r.phase → OfReading t.phase → OfReading (pick b r t).phase
-one_of true r t h k = h
-one_of false r t h k = k
+one : {A : Type 0} (P : A → Type 0) (b : Bool) (x y : A) → P x → P y → P (pick b x y)
+one P true x y h k = h
+one P false x y h k = k
 
-one_input : (b : Bool) (s t : Input) → OfReading s.reading.phase → OfReading t.reading.phase → OfReading (pick b s t).reading.phase
-one_input true s t h k = h
-one_input false s t h k = k
+abbrev Reads : Reading → Type 0
+Reads r = OfReading r.phase
+
+abbrev ReadsOn : Input → Type 0
+ReadsOn s = OfReading s.reading.phase
 
 stored_phase : (w : ℕ) (s : Input) → OfReading (stored w s).reading.phase
 unfolding stored
-stored_phase w s = go (ltb s.reading.count (length s.block / 4))
-  where
-    go : (b : Bool) → OfReading (pick b (input (record { phase = Between; value = 0; count = s.reading.count + 1 }) (write_at Word s.block (s.reading.count * 4) w)) (input (at (Faulty TooMany) 0 s.reading) s.block)).reading.phase
-    go true = tt
-    go false = tt
+stored_phase w s =
+    one ReadsOn (ltb s.reading.count (length s.block / 4)) (input (record { phase = Between; value = 0; count = s.reading.count + 1 }) (write_at Word s.block (s.reading.count * 4) w))
+    (input (at (Faulty TooMany) 0 s.reading) s.block) tt tt
 
 pub blank_phase_in : (p : Phase) (s : Input) → OfReading p → OfReading s.reading.phase → OfReading (blank_in p s).reading.phase
 unfolding blank_in
@@ -113,7 +113,7 @@ dash_phase (Other n) r = tt
 
 more_phase : (p : Phase) (most d : ℕ) (r : Reading) → OfReading p → OfReading (more_of p most d r).phase
 unfolding more_of
-more_phase p most d r h = one_of (leb (r.value * 10 + d) most) (at p (r.value * 10 + d) r) (at (Faulty OutOfRange) 0 r) h tt
+more_phase p most d r h = one Reads (leb (r.value * 10 + d) most) (at p (r.value * 10 + d) r) (at (Faulty OutOfRange) 0 r) h tt
 
 pub digit_phase : (p : Phase) (d : ℕ) (r : Reading) → OfReading (digit_in p d r).phase
 unfolding digit_in
@@ -127,14 +127,14 @@ digit_phase (Other n) d r = more_phase Positive _ d r tt
 pub sign_phase : (b : ℕ) (r : Reading) → OfReading (sign_after b r).phase
 unfolding sign_after dash_after digit_after
 sign_phase b r =
-    one_of (is "-" b) (dash_after r) (pick (is_digit b) (digit_after (b - 48) r) (at (Faulty NoNumber) 0 r)) (dash_phase r.phase r)
-    (one_of (is_digit b) (digit_after (b - 48) r) (at (Faulty NoNumber) 0 r) (digit_phase r.phase (b - 48) r) tt)
+    one Reads (is "-" b) (dash_after r) (pick (is_digit b) (digit_after (b - 48) r) (at (Faulty NoNumber) 0 r)) (dash_phase r.phase r)
+    (one Reads (is_digit b) (digit_after (b - 48) r) (at (Faulty NoNumber) 0 r) (digit_phase r.phase (b - 48) r) tt)
 
 pub byte_phase : (b : ℕ) (s : Input) → OfReading s.reading.phase → OfReading (read_byte b s).reading.phase
 unfolding read_byte
 byte_phase b s h =
-    one_input (is_fault s.reading.phase) s (pick (is_blank b) (blank_after s) (input (sign_after b s.reading) s.block)) h
-    (one_input (is_blank b) (blank_after s) (input (sign_after b s.reading) s.block) (blank_phase s h) (sign_phase b s.reading))
+    one ReadsOn (is_fault s.reading.phase) s (pick (is_blank b) (blank_after s) (input (sign_after b s.reading) s.block)) h
+    (one ReadsOn (is_blank b) (blank_after s) (input (sign_after b s.reading) s.block) (blank_phase s h) (sign_phase b s.reading))
 
 pub bytes_phase : (text : List ℕ) (s : Input) → OfReading s.reading.phase → OfReading (read_bytes text s).reading.phase
 unfolding read_bytes
